@@ -1,0 +1,5 @@
+// Sheets at the edges of what is lawful, made and told.
+#[cfg(test)]
+mod tables;
+#[cfg(test)]
+mod piles;

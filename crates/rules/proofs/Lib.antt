@@ -1,0 +1,4 @@
+pub mod Firsts
+pub mod Places
+pub mod Misfits
+pub mod Lawfuls

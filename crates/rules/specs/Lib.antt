@@ -1,0 +1,9 @@
+pub mod First
+pub mod Settings
+pub mod Constraints
+pub mod Lawful
+pub mod Rows
+pub mod Faults
+pub mod Entries
+pub mod Views
+pub mod Checks

@@ -1,0 +1,11 @@
+pub mod Rules
+pub mod Switches
+pub mod Forcing
+pub mod Systems
+pub mod Scanning
+pub mod Stacks
+pub mod Passing
+pub mod Finding
+pub mod Bounds
+pub mod Orders
+pub mod Courses

@@ -1,0 +1,6 @@
+pub mod Parts
+pub mod Forcing
+pub mod Tries
+pub mod Courses
+pub mod Theorems
+pub mod Table

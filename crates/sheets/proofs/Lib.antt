@@ -1,0 +1,5 @@
+pub mod Items
+pub mod Tabled
+pub mod Telling
+pub mod Shifts
+pub mod Joins

@@ -1,0 +1,4 @@
+pub mod Meaning
+pub mod Tables
+pub mod Views
+pub mod Piles
