@@ -15,6 +15,7 @@ use Rattle.rules.specs.Settings.{Setting, Within, Earlier}
 pub data Constraint : Type 0 where
   clause : List Literal → Constraint
   parity : List ℕ → Side → Constraint
+  deriving IsSet as constraint-isSet
 
 -- one of the two is true, and not both
 abbrev pub xor : Bool → Bool → Bool
