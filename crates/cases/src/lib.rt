@@ -1,5 +1,7 @@
-// Sheets at the edges of what is lawful, made and told.
+// Sheets at the edges of what is lawful, made, told and written.
+#[cfg(test)]
+mod piles;
 #[cfg(test)]
 mod tables;
 #[cfg(test)]
-mod piles;
+mod written;

@@ -88,7 +88,10 @@ fn entries(rt: LibcRuntime) -> Result<(), Fail> {
     }
     for again in [2i16, -2] {
         let rules = one(heap, clause, &[1, 2, 3, again, 9])?;
-        check_eq(check_table(n, rules.as_slice()), refusal(Cause::Repeat, 0, 3))?;
+        check_eq(
+            check_table(n, rules.as_slice()),
+            refusal(Cause::Repeat, 0, 3),
+        )?;
     }
     Ok(())
 }
@@ -106,8 +109,17 @@ fn sides_and_switches(rt: LibcRuntime) -> Result<(), Fail> {
         check_eq(check_table(3, rules.as_slice()), expected)?;
     }
     let rules = one(heap, RawKind::Parity(7), &[])?;
-    check_eq(check_table(3, rules.as_slice()), refusal(Cause::Width, 0, 0))?;
-    for (n, fits) in [(0u16, false), (1, true), (256, true), (257, false), (65535, false)] {
+    check_eq(
+        check_table(3, rules.as_slice()),
+        refusal(Cause::Width, 0, 0),
+    )?;
+    for (n, fits) in [
+        (0u16, false),
+        (1, true),
+        (256, true),
+        (257, false),
+        (65535, false),
+    ] {
         let rules = one(heap, RawKind::Clause, &[1])?;
         let expected = if fits {
             Ok(())
@@ -140,7 +152,13 @@ fn rule_counts(rt: LibcRuntime) -> Result<(), Fail> {
         kind: RawKind::Clause,
         entries,
     })?;
-    check_eq(check_table(3, rules.as_slice()), refusal(Cause::RuleCount, 1024, 0))?;
+    check_eq(
+        check_table(3, rules.as_slice()),
+        refusal(Cause::RuleCount, 1024, 0),
+    )?;
     check_eq(make_table(heap, 3, rules.as_slice())?.count(), 0)?;
-    check_eq(check_table(0, rules.as_slice()), refusal(Cause::SwitchCount, 0, 0))
+    check_eq(
+        check_table(0, rules.as_slice()),
+        refusal(Cause::SwitchCount, 0, 0),
+    )
 }

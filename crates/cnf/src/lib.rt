@@ -1,3 +1,3 @@
 // Sheets as DIMACS CNF, the text that stock solvers read.
-pub mod lines;
 pub mod convert;
+pub mod lines;

@@ -55,7 +55,12 @@ fn push_entry(heap: Global, entry: Option<Literal>, text: &mut String) -> Result
 }
 
 // The entries of rule i; no rule has more than 16.
-fn push_entries<S: Sheet>(heap: Global, sheet: &S, i: usize, text: &mut String) -> Result<(), AllocError>
+fn push_entries<S: Sheet>(
+    heap: Global,
+    sheet: &S,
+    i: usize,
+    text: &mut String,
+) -> Result<(), AllocError>
     ensures { λ r. ⌜ made r (λ _. string-bytes (now (text .exit)) ≡ string-bytes (now (text .entry)) ++ joined entry-text (entries-in (nth (S·Sheet .meaning (now (sheet .entry)) .rules) i))) ⌝ }
 {
     for j in 0..16usize {
@@ -65,7 +70,12 @@ fn push_entries<S: Sheet>(heap: Global, sheet: &S, i: usize, text: &mut String) 
 }
 
 // The line of rule i, where there is one.
-fn push_rule<S: Sheet>(heap: Global, sheet: &S, i: usize, text: &mut String) -> Result<(), AllocError>
+fn push_rule<S: Sheet>(
+    heap: Global,
+    sheet: &S,
+    i: usize,
+    text: &mut String,
+) -> Result<(), AllocError>
     ensures { λ r. ⌜ made r (λ _. string-bytes (now (text .exit)) ≡ string-bytes (now (text .entry)) ++ optional rule-line (nth (S·Sheet .meaning (now (sheet .entry)) .rules) i)) ⌝ }
 {
     let Some(kind) = sheet.kind(i) else {

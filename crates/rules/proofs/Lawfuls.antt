@@ -125,19 +125,19 @@ module _ (k : Kind) (n : ℕ) (es : List ℤ) (none : entries-misfit k n es ≡ 
       let long = length-map es named-switch in
       different-from (map named-switch es)
       (λ i j lt l e.
-        let m : j < length es = omega arith in
-        let o : i < length es = omega arith in
-        true≢false (sym (eq-eqb _ _ (sym (switch-at i o) ∙ e ∙ switch-at j m)) ∙ some-all _ j (fits-at j m .1) i lt))
+      let m : j < length es = omega arith in
+      let o : i < length es = omega arith in
+      true≢false (sym (eq-eqb _ _ (sym (switch-at i o) ∙ e ∙ switch-at j m)) ∙ some-all _ j (fits-at j m .1) i lt))
 
 pub misfitless-lawful : (k : Kind) (n : ℕ) (es : List ℤ) → rule-misfit k n es ≡ None → lawful n (rule-of k es) ≡ true
 misfitless-lawful k n es h =
     let p = passed (width-fits k (length es)) _ _ h in
     let named-so = switches-named k es in
     let wide : width-fits (kind (rule-of k es)) (length (switches (rule-of k es))) ≡ true =
-        (λ t. width-fits (kind-named k es t) (length (named-so t))) ∙ ap (width-fits k) (length-map es named-switch) ∙ p .0 in
+    (λ t. width-fits (kind-named k es t) (length (named-so t))) ∙ ap (width-fits k) (length-map es named-switch) ∙ p .0 in
     and-from (width-fits (kind (rule-of k es)) (length (switches (rule-of k es)))) _ wide
     (subst (λ vs. (every (inside n) vs && different vs) ≡ true) (sym named-so)
-      (and-from (every (inside n) (map named-switch es)) _ (inside-all k n es (p .1)) (different-all k n es (p .1))))
+    (and-from (every (inside n) (map named-switch es)) _ (inside-all k n es (p .1)) (different-all k n es (p .1))))
 
 pub built-lawful : (k : Kind) (n : ℕ) (es : List ℤ) (r : Constraint) → Ok r ≡ built k n es → lawful n r ≡ true
 built-lawful k n es r h = by (rule-misfit k n es) refl h

@@ -54,8 +54,8 @@ paired-lawful a b v w = cond-both (is-short a b) (joined-sheets a b) blank Lawfu
           narrow = omega (arith, v .narrow, w .narrow);
           short = simp length-append (omega (arith, leb-true _ _ e));
           sound = every-append (lawful n) (a .rules) (b .rules)
-            (every-weaker (lawful (a .switches)) (lawful n) (lawful-wider (a .switches) n (omega arith)) (a .rules) (v .sound))
-            (every-weaker (lawful (b .switches)) (lawful n) (lawful-wider (b .switches) n (omega arith)) (b .rules) (w .sound));
+              (every-weaker (lawful (a .switches)) (lawful n) (lawful-wider (a .switches) n (omega arith)) (a .rules) (v .sound))
+              (every-weaker (lawful (b .switches)) (lawful n) (lawful-wider (b .switches) n (omega arith)) (b .rules) (w .sound));
         }
 
 pub paired-is : (a b : Meaning) → is-short a b ≡ true → paired a b ≡ joined-sheets a b

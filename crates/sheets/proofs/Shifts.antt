@@ -66,11 +66,11 @@ lawful-shifted k n r h =
     let one : (v : ℕ) → inside n v ≡ true → inside (n + k) (v + k) ≡ true = λ v e. grind (arith, tells) in
     let there = switches-shifted k r in
     let wide : width-fits (kind (shifted-rule k r)) (length (switches (shifted-rule k r))) ≡ true =
-        (λ t. width-fits (kind-shifted k r t) (length (there t))) ∙ ap (width-fits (kind r)) (length-map (switches r) (λ v. v + k)) ∙ a .0 in
+    (λ t. width-fits (kind-shifted k r t) (length (there t))) ∙ ap (width-fits (kind r)) (length-map (switches r) (λ v. v + k)) ∙ a .0 in
     and-from (width-fits (kind (shifted-rule k r)) (length (switches (shifted-rule k r)))) _ wide
     (and-from (every (inside (n + k)) (switches (shifted-rule k r))) _
-      (ap (every (inside (n + k))) there ∙ every-map (inside n) (inside (n + k)) (λ v. v + k) one (switches r) (b .0))
-      (ap different there ∙ different-shifted k (switches r) (b .1)))
+    (ap (every (inside (n + k))) there ∙ every-map (inside n) (inside (n + k)) (λ v. v + k) one (switches r) (b .0))
+    (ap different there ∙ different-shifted k (switches r) (b .1)))
 
 shifted-lawful : (m : Meaning) (k : ℕ) → m .switches + k ≤ 256 → LawfulSheet m → LawfulSheet (shifted-sheet k m)
 shifted-lawful m k fit w =

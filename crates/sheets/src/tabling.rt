@@ -44,7 +44,13 @@ pub fn check_table(n: u16, rules: &[RawRule]) -> Result<(), Fault>
 {
     check_size(n, rules.len())?;
     for (i, rule) in rules.iter().enumerate() {
-        check_rule(Layer::Table, i as u16, n, rule.kind, rule.entries.as_slice())?;
+        check_rule(
+            Layer::Table,
+            i as u16,
+            n,
+            rule.kind,
+            rule.entries.as_slice(),
+        )?;
     }
     Ok(())
 }
@@ -68,7 +74,13 @@ pub fn make_table(heap: Global, n: u16, rules: &[RawRule]) -> Result<Table, Allo
     }
     let mut built = Vec::new(heap);
     for (i, rule) in rules.iter().enumerate() {
-        match check_rule(Layer::Table, i as u16, n, rule.kind, rule.entries.as_slice()) {
+        match check_rule(
+            Layer::Table,
+            i as u16,
+            n,
+            rule.kind,
+            rule.entries.as_slice(),
+        ) {
             Ok(rule) => built.push(rule)?,
             Err(_fault) => return Ok(blank_table(heap)),
         }

@@ -1,4 +1,4 @@
 // Text for people and other programs: the line that tells a refusal, and texts put into lent buffers.
-pub mod refusals;
-pub mod lent;
 pub mod errors;
+pub mod lent;
+pub mod refusals;

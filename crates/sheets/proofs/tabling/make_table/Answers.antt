@@ -37,7 +37,7 @@ loop-i-again c =
       omega (arith, c .in-Continue-push .ensures tt .len),
       ap (every (lawful (c .args .n))) grown ∙ every-push (lawful (c .args .n)) (map constraint (vec-items (c .loop-i .built))) _ (c .loop-i .inv .1) good,
       ap (λ rs. prefixed rs (table-rules (c .args .n) (c .loop-i .i + 1) (map draft (drop (c .loop-i .i + 1) (c .args .rules .now))))) grown
-      ∙ prefixed-push (map constraint (vec-items (c .loop-i .built))) (constraint (c .in-Ok .rule)) _ ∙ ap (prefixed (map constraint (vec-items (c .loop-i .built)))) (sym here) ∙ c .loop-i .inv .2,
+          ∙ prefixed-push (map constraint (vec-items (c .loop-i .built))) (constraint (c .in-Ok .rule)) _ ∙ ap (prefixed (map constraint (vec-items (c .loop-i .built)))) (sym here) ∙ c .loop-i .inv .2,
     )
 
 pub returns : need.returns

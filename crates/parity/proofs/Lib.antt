@@ -1,0 +1,10 @@
+pub mod Sets
+pub mod Turns
+pub mod Conversions
+pub mod Places
+pub mod Breaking
+pub mod Values
+pub mod Recovered
+pub mod Room
+pub mod Gathered
+pub mod Told

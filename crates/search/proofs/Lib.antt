@@ -1,0 +1,11 @@
+pub mod Levels
+pub mod Passes
+pub mod Reading
+pub mod Going
+pub mod Propositions
+pub mod Reduction
+pub mod Tables
+pub mod Opening
+pub mod Standings
+pub mod Budgets
+pub mod Endings

@@ -1,0 +1,15 @@
+pub mod Buffers
+pub mod Slots
+pub mod Values
+pub mod Puts
+pub mod Settings
+pub mod Told
+pub mod Fronts
+pub mod Counts
+pub mod Refusals
+pub mod Outcomes
+pub mod Entries
+pub mod Clauses
+pub mod ReadRecords
+pub mod Kept
+pub mod ReadBack
