@@ -72,7 +72,7 @@ off-side-place side bs = ap (λ b. not (same (is-odd side) b)) (place-odd bs)
 
 module _ (rules : List Constraint) (law : Lawful-rules 256 rules) (vs : List ℕ) (side : Side) (ok : Proper 256 vs) (few : length vs ≤ 5) where
   -- each place of a setting that breaks the rule is marked
-  abbrev pub All-marked : Type 0
+  abbrev All-marked : Type 0
   All-marked = (k : ℕ) → k < 2 ^ length vs → off-side-at side k ≡ true → getD (marked-by vs rules (replicate 32 false)) k false ≡ true
 
   small : (k : ℕ) → k < 2 ^ length vs → k < 32
