@@ -54,7 +54,18 @@ def declared(paths):
                 continue
             for name in m.group(1).split():
                 names[name] = spelled(name)
-    return {old: new for old, new in names.items() if old != new}
+    made = set()
+    for path in paths:
+        made |= set(re.findall(r"\bgoal\.(" + TOKEN.pattern + ")", open(path, encoding="utf-8").read()))
+    return {old: new for old, new in names.items() if old != new and old not in made}
+
+
+def borrowed(text):
+    """What a file takes from a library, under the name that it has there: such a name is not this repository's."""
+    found = set()
+    for items in re.findall(r"\buse\s+(?:Rattle\.std|borrow|logic|Prim)\b[^{;\n]*\{([^}]*)\}", text):
+        found |= {i.split(" as ")[-1].strip() for i in items.split(",")}
+    return found
 
 
 def turned(text, names, comment):
@@ -118,7 +129,9 @@ def main():
         print("\n".join(sorted(bad)))
         sys.exit(1)
     for path, text in texts.items():
-        new = clauses_turned(text, names) if path.endswith(".rt") else turned(text, names, "--")
+        kept = borrowed(text)
+        own = {old: new for old, new in names.items() if old not in kept}
+        new = clauses_turned(text, own) if path.endswith(".rt") else turned(text, own, "--")
         if new != text:
             with open(path, "w", encoding="utf-8") as f:
                 f.write(new)

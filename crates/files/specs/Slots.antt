@@ -2,7 +2,7 @@
 use Rattle.std.specs.Prelude.{◌≡◌, ℕ, suc, ◌+◌, ◌<◌, ◌≤◌, Bool, true, false, cond, List, [], ◌∷◌, ◌++◌, length, take, drop, ℤ, pos, Some, None, Option, Result, slice_index, slice_index_or, refl}
 use Rattle.std.proofs.Common.{sym, ap, ◌∙◌, arith, length-drop}
 use Rattle.std.proofs.lemmas.List.{append-nil, append_assoc, take_more, at_drop_more, at_drop_all}
-use Rattle.std.proofs.lemmas.Bool.{cond_true, cond_false, leb-true, le-leb}
+use Rattle.std.proofs.lemmas.Bool.{cond-true, cond-false, leb-true, le-leb}
 use Rattle.std.proofs.lemmas.List.FromFn.{length-map-range_with_len}
 use Rattle.std.proofs.lemmas.Bool.Decides.{nat_tests}
 use Rattle.rules.specs.declared.faults.Cause.TheVariants.{Form, Width}
@@ -18,12 +18,12 @@ use Rattle.files.specs.Sounds.{sound_demand, sound_framed}
 module _ (es : List ℤ) (i : ℕ) (far : used_slots es ≡ take i es ++ used_slots (drop i es)) where
   pub used_more : i < length es → is_empty (slice_index_or es i (pos 0)) ≡ false → used_slots es ≡ take (i + 1) es ++ used_slots (drop (i + 1) es)
   used_more lt filled =
-      let next : used_slots (drop i es) ≡ slice_index_or es i (pos 0) ∷ used_slots (drop (i + 1) es) = at_drop_more used_slots es i (pos 0) lt ∙ cond_false _ _ _ filled in
+      let next : used_slots (drop i es) ≡ slice_index_or es i (pos 0) ∷ used_slots (drop (i + 1) es) = at_drop_more used_slots es i (pos 0) lt ∙ cond-false _ _ _ filled in
       far ∙ ap (λ l. take i es ++ l) next ∙ sym (append_assoc (take i es) (slice_index_or es i (pos 0) ∷ []) _) ∙ ap (λ l. l ++ used_slots (drop (i + 1) es)) (sym (take_more es i (pos 0) lt))
 
   pub used_found : i < length es → is_empty (slice_index_or es i (pos 0)) ≡ true → used_slots es ≡ take i es
   used_found lt empty =
-      let next : used_slots (drop i es) ≡ [] = at_drop_more used_slots es i (pos 0) lt ∙ cond_true _ _ _ empty in
+      let next : used_slots (drop i es) ≡ [] = at_drop_more used_slots es i (pos 0) lt ∙ cond-true _ _ _ empty in
       far ∙ ap (λ l. take i es ++ l) next ∙ append-nil (take i es)
 
   pub used_all : i ≡ length es → used_slots es ≡ take (length es) es
@@ -31,10 +31,10 @@ module _ (es : List ℤ) (i : ℕ) (far : used_slots es ≡ take i es ++ used_sl
 
 module _ (es : List ℤ) (i : ℕ) where
   pub filled_more : i < length es → is_empty (slice_index_or es i (pos 0)) ≡ true → filled_from i (drop i es) ≡ filled_from (i + 1) (drop (i + 1) es)
-  filled_more lt empty = at_drop_more (filled_from i) es i (pos 0) lt ∙ cond_true _ _ _ empty
+  filled_more lt empty = at_drop_more (filled_from i) es i (pos 0) lt ∙ cond-true _ _ _ empty
 
   pub filled_here : i < length es → is_empty (slice_index_or es i (pos 0)) ≡ false → filled_from i (drop i es) ≡ Some i
-  filled_here lt filled = at_drop_more (filled_from i) es i (pos 0) lt ∙ cond_false _ _ _ filled
+  filled_here lt filled = at_drop_more (filled_from i) es i (pos 0) lt ∙ cond-false _ _ _ filled
 
   pub filled_none : length es ≤ i → filled_from i (drop i es) ≡ None
   filled_none past = at_drop_all (filled_from i) es i past
@@ -62,12 +62,12 @@ used_short (e ∷ es) = by (used_short es) (is_empty e)
     by more false = omega arith
 
 pub slots_here : (n : ℕ) (rest : List ℕ) (es : List ℤ) → 16 ≤ length rest → es ≡ entries_in 8 rest → first_clause n rest ≡ slotted n es
-slots_here n rest es long is = cond_true _ _ _ (le-leb _ _ long) ∙ ap (slotted n) (sym is)
+slots_here n rest es long is = cond-true _ _ _ (le-leb _ _ long) ∙ ap (slotted n) (sym is)
 
 pub clause_here : (n : ℕ) (bs : List ℕ) → 2 ≤ length bs → slice_index bs 0 ≡ 67 → slice_index bs 1 ≡ 76 → first_rule n bs ≡ Some (first_clause n (drop 2 bs))
 clause_here n bs long m0 m1 =
     let mark : clause_marked bs ≡ true = grind (arith, nat_tests) in
-    cond_true _ _ _ mark
+    cond-true _ _ _ mark
 
 sound_slotted : (n l : ℕ) (es : List ℤ) → length es ≤ 8 → 18 ≤ l → Sound n l (slotted n es)
 sound_slotted n l es few long =

@@ -1,7 +1,7 @@
 -- The setting that breaks a clause, by its place.
 use Rattle.std.proofs.Common.{◌≡◌, ℕ, zero, suc, ◌+◌, ◌*◌, ◌^◌, ◌<◌, ◌≤◌, Bool, true, false, not, ◌&&◌, eqb, ◌⊎◌, List, [], ◌∷◌, map, length, Some, None, Option, sym, refl, ap, ◌∙◌, subst, ap₂, inl, inr, true≢false, pow-suc, arith}
 use Rattle.std.proofs.lemmas.List.{length-map}
-use Rattle.std.proofs.lemmas.Bool.{cases_Bool, cases_eq, cases_lt, and_parts, and_left, and_right, or_parts, or_from, eqb-true, eq-eqb, ne_eqb, cond_true, cond_false}
+use Rattle.std.proofs.lemmas.Bool.{cases_Bool, cases_eq, cases_lt, and_parts, and_left, and_right, or_parts, or_from, eqb-true, eq-eqb, ne_eqb, cond-true, cond-false}
 use Rattle.rules.specs.declared.literals.Literal.{Literal}
 use Rattle.rules.specs.Settings.{Setting, Within}
 use Rattle.rules.specs.Constraints.{Constraint, clause, parity, same, switch_of, some_kept, Each}
@@ -90,8 +90,8 @@ broken_value t [] v h e = absurd (true≢false e)
 broken_value t (l ∷ ls) v h e =
     let p = or_parts (same l.on (t l.switch)) (some_kept t ls) h in
     elim (cases_eq l.switch v) [
-      | inl q ↦ cond_true _ _ _ (eq-eqb l.switch v q) ∙ ap Some (not_same l.on (t l.switch) p.0 ∙ ap t q)
-      | inr ne ↦ cond_false _ _ _ (ne_eqb l.switch v ne) ∙ broken_value t ls v p.1 (ap (λ b. not b && absent v (map switch_of ls)) (sym (ne_eqb v l.switch (λ q. ne (sym q)))) ∙ e)
+      | inl q ↦ cond-true _ _ _ (eq-eqb l.switch v q) ∙ ap Some (not_same l.on (t l.switch) p.0 ∙ ap t q)
+      | inr ne ↦ cond-false _ _ _ (ne_eqb l.switch v ne) ∙ broken_value t ls v p.1 (ap (λ b. not b && absent v (map switch_of ls)) (sym (ne_eqb v l.switch (λ q. ne (sym q)))) ∙ e)
     ]
 
 pub value_present : (ls : List Literal) (v : ℕ) (b : Bool) → breaking_value ls v ≡ Some b → absent v (map switch_of ls) ≡ false
@@ -99,7 +99,7 @@ value_present [] v b h = let z : ◌≡◌ {A = ℕ} 0 1 = cc in absurd (omega a
 value_present (l ∷ ls) v b h =
     elim (cases_eq l.switch v) [
       | inl q ↦ and_left _ _ (ap not (eq-eqb v l.switch (sym q)))
-      | inr ne ↦ and_right _ _ (value_present ls v b (sym (cond_false _ _ _ (ne_eqb l.switch v ne)) ∙ h))
+      | inr ne ↦ and_right _ _ (value_present ls v b (sym (cond-false _ _ _ (ne_eqb l.switch v ne)) ∙ h))
     ]
 
 -- a setting that has them breaks it
@@ -107,8 +107,8 @@ values_break : (t : Setting) (ls : List Literal) → different (map switch_of ls
 values_break t [] d h = refl
 values_break t (l ∷ ls) d h =
     let p = and_parts (absent l.switch (map switch_of ls)) (different (map switch_of ls)) d in
-    or_from _ _ (same_not l.on (t l.switch) (some_equal (not l.on) (t l.switch) (sym (cond_true _ _ _ (eq-eqb l.switch l.switch refl)) ∙ h l.switch (absent_head l.switch (map switch_of ls)))))
-    (values_break t ls p.1 (λ v e. sym (cond_false _ _ _ (ne_eqb l.switch v (λ q. true≢false (sym p.0 ∙ ap (λ u. absent u (map switch_of ls)) q ∙ e)))) ∙ h v (and_right _ _ e)))
+    or_from _ _ (same_not l.on (t l.switch) (some_equal (not l.on) (t l.switch) (sym (cond-true _ _ _ (eq-eqb l.switch l.switch refl)) ∙ h l.switch (absent_head l.switch (map switch_of ls)))))
+    (values_break t ls p.1 (λ v e. sym (cond-false _ _ _ (ne_eqb l.switch v (λ q. true≢false (sym p.0 ∙ ap (λ u. absent u (map switch_of ls)) q ∙ e)))) ∙ h v (and_right _ _ e)))
   where
     some_equal : (a b : Bool) → Some a ≡ Some b → a ≡ b
     some_equal a b e = cc
@@ -149,17 +149,17 @@ module _ (n : ℕ) (t : Setting) (vs : List ℕ) (ok : Proper n vs) where
   pub breaks_place : (r : Constraint) → lawful n r ≡ true → Breaks t vs r → breaking_place vs r ≡ Some (place (map t vs))
   breaks_place (clause ls) law h =
       let size : length ls ≡ length vs = sym (length-map ls switch_of) ∙ alike_length n (map switch_of ls) vs (lawful_proper n (clause ls) law) ok h.0 in
-      cond_true _ _ _ (eq-eqb (length ls) (length vs) size) ∙ values_broken t ls vs h.1 (each_present vs (map switch_of ls) (λ v e. h.0 v ∙ e))
+      cond-true _ _ _ (eq-eqb (length ls) (length vs) size) ∙ values_broken t ls vs h.1 (each_present vs (map switch_of ls) (λ v e. h.0 v ∙ e))
   breaks_place (parity ws side) law h = absurd h
 
   pub place_breaks : (r : Constraint) → lawful n r ≡ true → breaking_place vs r ≡ Some (place (map t vs)) → Breaks t vs r
   place_breaks (clause ls) law h = by (cases_Bool (eqb (length ls) (length vs)))
     where
       by : (eqb (length ls) (length vs) ≡ true) ⊎ (eqb (length ls) (length vs) ≡ false) → Breaks t vs (clause ls)
-      by (inr e) = let z : ◌≡◌ {A = ℕ} 0 1 = cc (sym (cond_false _ (values_place ls vs) None e) ∙ h) in absurd (omega arith)
+      by (inr e) = let z : ◌≡◌ {A = ℕ} 0 1 = cc (sym (cond-false _ (values_place ls vs) None e) ∙ h) in absurd (omega arith)
       by (inl e) =
           let own = lawful_proper n (clause ls) law in
-          let has = placed_values t ls vs (sym (cond_true _ (values_place ls vs) None e) ∙ h) in
+          let has = placed_values t ls vs (sym (cond-true _ (values_place ls vs) None e) ∙ h) in
           let size : length vs ≡ length (map switch_of ls) = sym (eqb-true (length ls) (length vs) e) ∙ sym (length-map ls switch_of) in
           let alike = alike_when n vs (map switch_of ls) ok own size (each_weaker _ _ (λ v. value_present ls v (t v)) vs has) in
           (alike, values_break t ls own.apart (λ v k. at_present (λ u. breaking_value ls u ≡ Some (t u)) vs has v (sym (alike v) ∙ k)))

@@ -1,7 +1,7 @@
 -- The equations that the rules give, one rule after the other.
 use Rattle.std.proofs.Common.{◌≡◌, ℕ, ◌+◌, ◌<◌, ◌≤◌, Bool, true, false, cond, ◌&&◌, leb, List, [], ◌∷◌, ◌++◌, map, length, get_or, drop, Some, None, filter, Option, sym, refl, ap, ◌∙◌, ap₂, arith}
 use Rattle.std.proofs.lemmas.List.{length-map, get_or-map}
-use Rattle.std.proofs.lemmas.Bool.{and_parts, and_from, leb-true, le-leb, cond_true}
+use Rattle.std.proofs.lemmas.Bool.{and_parts, and_from, leb-true, le-leb, cond-true}
 use Rattle.rules.specs.declared.literals.Literal.{Literal}
 use Rattle.rules.specs.declared.kinds.Side.{Side}
 use Rattle.rules.specs.declared.rule.Rule.{Rule}
@@ -33,7 +33,7 @@ parity_lawful ls side h =
 pub recovered_when : (cs : List (List Literal)) (ls : List Literal) → lawful 256 (clause ls) ≡ true → length ls ≤ 5 → recovers cs ls ≡ true → Some (equation_of 256 ls) ≡ recovered_by cs (clause ls)
 recovered_when cs ls h few rec =
     let w = clause_width ls h in
-    sym (cond_true _ _ _ (and_from (narrow ls) (recovers cs ls) (and_from _ _ (le-leb 1 (length ls) w.0) (le-leb (length ls) 5 few)) rec))
+    sym (cond-true _ _ _ (and_from (narrow ls) (recovers cs ls) (and_from _ _ (le-leb 1 (length ls) w.0) (le-leb (length ls) 5 few)) rec))
 
 -- ---- all rules
 

@@ -1,7 +1,7 @@
 -- Rules linked in buckets: one more rule is linked, and a walk along a bucket leaves out nothing that marks.
 use Rattle.std.proofs.Common.{◌≡◌, ℕ, zero, suc, ◌+◌, ◌%◌, ◌<◌, ◌≤◌, Bool, true, false, cond, eqb, ltb, ◌⊎◌, List, [], ◌∷◌, map, length, get_or, drop, set, replicate, sym, refl, ap, ◌∙◌, subst, ap₂, inl, inr, arith}
 use Rattle.std.proofs.lemmas.List.{at_drop_more, at_drop_all, drop-drop, get_or-drop, length-drop, get_or-replicate, get_or-set_same, get_or-set_other}
-use Rattle.std.proofs.lemmas.Bool.{cases_Bool, cases_eq, eqb-true, eqb-false, eq-eqb, ne_eqb, cond_true, cond_false, and_parts}
+use Rattle.std.proofs.lemmas.Bool.{cases_Bool, cases_eq, eqb-true, eqb-false, eq-eqb, ne_eqb, cond-true, cond-false, and_parts}
 use Rattle.rules.specs.First.{every}
 use Rattle.rules.specs.Constraints.{Constraint, clause, parity, switch_of}
 use Rattle.rules.specs.Lawful.{lawful}
@@ -41,10 +41,10 @@ module _ (rules : List Constraint) (i j : ℕ) (first next : List ℕ) (b v : �
   new_starts : (c : ℕ) → c < 257 → get_or (set first b j) c 0 ≡ first_from rules c j
   new_starts c h =
       elim (cases_eq c b) [
-        | inl e ↦ (let none : ahead (drop j rules) c ≡ 0 = one_more c ∙ cond_true _ _ _ (eq-eqb b c (sym e)) in
+        | inl e ↦ (let none : ahead (drop j rules) c ≡ 0 = one_more c ∙ cond-true _ _ _ (eq-eqb b c (sym e)) in
             let s = small in
             ap (λ x. get_or (set first b j) x 0) e ∙ get_or-set_same first b j 0 (omega arith) ∙ omega arith)
-        | inr ne ↦ (let more : ahead (drop j rules) c ≡ suc (ahead (drop i rules) c) = one_more c ∙ cond_false _ _ _ (ne_eqb b c (λ e. ne (sym e))) in
+        | inr ne ↦ (let more : ahead (drop j rules) c ≡ suc (ahead (drop i rules) c) = one_more c ∙ cond-false _ _ _ (ne_eqb b c (λ e. ne (sym e))) in
             let old = before.starts c h in
             get_or-set_other first b c j 0 ne ∙ omega arith)
       ]

@@ -1,7 +1,7 @@
 -- Clauses on exactly the same switches have the same sum of switches, so they share a bucket.
 use Rattle.std.proofs.Common.{◌≡◌, ℕ, zero, suc, ◌+◌, ◌%◌, ◌<◌, ◌≤◌, Bool, true, false, cond, eqb, ltb, ◌⊎◌, List, [], ◌∷◌, map, length, Some, None, Option, sym, refl, ap, ◌∙◌, ap₂, inl, inr, arith}
 use Rattle.std.proofs.lemmas.List.{length-map}
-use Rattle.std.proofs.lemmas.Bool.{cases_Bool, cases_eq, eqb-true, eq-eqb, ne_eqb, le-ltb, cond_true, cond_false}
+use Rattle.std.proofs.lemmas.Bool.{cases_Bool, cases_eq, eqb-true, eq-eqb, ne_eqb, le-ltb, cond-true, cond-false}
 use Rattle.rules.specs.declared.literals.Literal.{Literal}
 use Rattle.rules.specs.Settings.{Within}
 use Rattle.rules.specs.Constraints.{Constraint, clause, parity, switch_of, Each}
@@ -65,7 +65,7 @@ module _ (vs : List ℕ) (b : ℕ) (ok : Proper 256 vs) (few : length vs ≤ 5) 
       let own = lawful_proper 256 (clause ls) law in
       let long : length vs ≡ length (map switch_of ls) = sym size ∙ sym (length-map ls switch_of) in
       let alike = alike_when 256 vs (map switch_of ls) ok own long (placed_present ls vs p h) in
-      cond_false _ _ _ (le-ltb 5 (length ls) (omega arith)) ∙ ap (λ k. k % 256) (alike_total 256 (map switch_of ls) vs own ok alike) ∙ sym is
+      cond-false _ _ _ (le-ltb 5 (length ls) (omega arith)) ∙ ap (λ k. k % 256) (alike_total 256 (map switch_of ls) vs own ok alike) ∙ sym is
 
   pub other_bucket : (r : Constraint) → lawful 256 r ≡ true → (bucket r ≡ b → ⊥) → breaking_place vs r ≡ None
   other_bucket (parity ws side) law other = refl
@@ -76,5 +76,5 @@ module _ (vs : List ℕ) (b : ℕ) (ok : Proper 256 vs) (few : length vs ≤ 5) 
       at (Some p) size h = absurd (other (same_bucket ls p law size h))
 
       by : (eqb (length ls) (length vs) ≡ true) ⊎ (eqb (length ls) (length vs) ≡ false) → breaking_place vs (clause ls) ≡ None
-      by (inl e) = cond_true _ _ _ e ∙ at (values_place ls vs) (eqb-true (length ls) (length vs) e) refl
-      by (inr e) = cond_false _ _ _ e
+      by (inl e) = cond-true _ _ _ e ∙ at (values_place ls vs) (eqb-true (length ls) (length vs) e) refl
+      by (inr e) = cond-false _ _ _ e

@@ -2,7 +2,7 @@
 use Rattle.std.proofs.Common.{◌≡◌, ℕ, zero, suc, ◌+◌, ◌*◌, ◌^◌, ◌<◌, ◌≤◌, Bool, true, false, cond, not, eqb, List, [], ◌∷◌, length, get_or, drop, Some, None, Option, sym, refl, ap, ◌∙◌, ap₂, inl, inr, arith, pow_mono}
 use mir.Val.{bool_byte}
 use Rattle.std.proofs.lemmas.List.{at_drop_more, at_drop_all}
-use Rattle.std.proofs.lemmas.Bool.{cases_Bool, cond_true, cond_false, eq-eqb, ne_eqb}
+use Rattle.std.proofs.lemmas.Bool.{cases_Bool, cond-true, cond-false, eq-eqb, ne_eqb}
 use Rattle.rules.specs.declared.literals.Literal.{Literal}
 use Rattle.rules.specs.Constraints.{clause}
 use Rattle.rules.specs.Rows.{bit}
@@ -15,10 +15,10 @@ module _ (ls : List Literal) (i v : ℕ) (d : Literal) (here : i < length ls) (s
   step = sym sofar ∙ at_drop_more (λ l. breaking_value l v) ls i d here
 
   pub value_here : (get_or ls i d).switch ≡ v → Some (not (get_or ls i d).on) ≡ breaking_value ls v
-  value_here e = sym (step ∙ cond_true _ _ _ (eq-eqb (get_or ls i d).switch v e))
+  value_here e = sym (step ∙ cond-true _ _ _ (eq-eqb (get_or ls i d).switch v e))
 
   pub value_next : ((get_or ls i d).switch ≡ v → ⊥) → breaking_value (drop (i + 1) ls) v ≡ breaking_value ls v
-  value_next ne = sym (step ∙ cond_false _ _ _ (ne_eqb (get_or ls i d).switch v ne))
+  value_next ne = sym (step ∙ cond-false _ _ _ (ne_eqb (get_or ls i d).switch v ne))
 
 -- one switch that the clause lacks
 with_none : (o : Option Bool) → with_value o None ≡ None
@@ -39,10 +39,10 @@ module _ (ls : List Literal) (vs : List ℕ) where
   place_more i p b l h e = at_drop_more (values_place ls) vs i 0 l ∙ ap₂ with_value (sym e) h
 
   pub place_other : (length ls ≡ length vs → ⊥) → None ≡ breaking_place vs (clause ls)
-  place_other ne = sym (cond_false _ _ _ (ne_eqb (length ls) (length vs) ne))
+  place_other ne = sym (cond-false _ _ _ (ne_eqb (length ls) (length vs) ne))
 
   pub place_found : (o : Option ℕ) → length ls ≡ length vs → values_place ls vs ≡ o → o ≡ breaking_place vs (clause ls)
-  place_found o e h = sym (cond_true _ _ _ (eq-eqb (length ls) (length vs) e) ∙ h)
+  place_found o e h = sym (cond-true _ _ _ (eq-eqb (length ls) (length vs) e) ∙ h)
 
 -- a place is an index of the marks
 pub small_place : (ls : List Literal) (vs : List ℕ) (p : ℕ) → length vs ≤ 5 → values_place ls vs ≡ Some p → p < 32
@@ -51,8 +51,8 @@ small_place ls vs p l h = let m : 2 ^ (length vs) ≤ 2 ^ 5 = pow_mono {i = leng
 pub small_breaking : (ls : List Literal) (vs : List ℕ) (p : ℕ) → length vs ≤ 5 → Some p ≡ breaking_place vs (clause ls) → p < 32
 small_breaking ls vs p l h =
     elim (cases_Bool (eqb (length ls) (length vs))) [
-      | inl e ↦ small_place ls vs p l (sym (h ∙ cond_true _ (values_place ls vs) None e))
-      | inr e ↦ (let z : ◌≡◌ {A = ℕ} 0 1 = cc (h ∙ cond_false _ (values_place ls vs) None e) in absurd (omega arith))
+      | inl e ↦ small_place ls vs p l (sym (h ∙ cond-true _ (values_place ls vs) None e))
+      | inr e ↦ (let z : ◌≡◌ {A = ℕ} 0 1 = cc (h ∙ cond-false _ (values_place ls vs) None e) in absurd (omega arith))
     ]
 
 pub byte_bit : (b : Bool) → bool_byte b ≡ bit b

@@ -2,7 +2,7 @@
 use Rattle.std.proofs.Common.{◌≡◌, ℕ, zero, suc, ◌+◌, ◌-◌, ◌<◌, ◌≤◌, true, false, eqb, List, [], ◌∷◌, ◌++◌, length, drop, Some, None, Err, Option, sym, refl, ap, ◌∙◌, subst, arith}
 use Rattle.std.specs.Option.{option_map}
 use Rattle.std.proofs.lemmas.List.{append-nil, append_assoc}
-use Rattle.std.proofs.lemmas.Bool.{cond_true, cond_false}
+use Rattle.std.proofs.lemmas.Bool.{cond-true, cond-false}
 use Rattle.script.specs.declared.errors.ScriptError.{ScriptError}
 use Rattle.script.specs.declared.errors.ScriptError.TheVariants.{Form, Memory}
 use Rattle.script.specs.Records.{RecordRead, CallsRead}
@@ -29,11 +29,11 @@ one_more k bs = refl
 
 at_end : (bs : List ℕ) → eqb (length bs) 0 ≡ true → calls_in 0 bs ≡ Some []
 unfolding calls_in
-at_end bs h = cond_true _ _ _ h
+at_end bs h = cond-true _ _ _ h
 
 past_end : (bs : List ℕ) → eqb (length bs) 0 ≡ false → calls_in 0 bs ≡ None
 unfolding calls_in
-past_end bs h = cond_false _ _ _ h
+past_end bs h = cond-false _ _ _ h
 
 module _ {n : ℕ} {bs : List ℕ} {i : ℕ} {rest : List ℕ} {before : List Asked} (far : Underway n bs i rest before) where
   next : i < n → calls_in n bs ≡ option_map (λ later. before ++ later) (call_then rest (calls_in (n - (i + 1))) (call_at rest))

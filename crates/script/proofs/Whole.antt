@@ -2,7 +2,7 @@
 use Rattle.std.proofs.Common.{◌≡◌, ℕ, ◌+◌, ◌-◌, ◌≤◌, List, map, length, take, drop, Some, None, Err, Option, sym, ap, ◌∙◌, subst, ap₂, arith}
 use Rattle.std.specs.Option.{option_map}
 use Rattle.std.proofs.lemmas.List.{take_rest}
-use Rattle.std.proofs.lemmas.Bool.{cond_true, le-leb}
+use Rattle.std.proofs.lemmas.Bool.{cond-true, le-leb}
 use Rattle.session.specs.declared.call.Call.{Call}
 use Rattle.script.specs.declared.errors.ScriptError.{ScriptError}
 use Rattle.script.specs.declared.errors.ScriptError.TheVariants.{Form}
@@ -21,7 +21,7 @@ module _ (bs : List ℕ) (h : Head) (second calls : ℕ) (front : Some h ≡ hea
   read o e =
       let place : calls ≡ before_calls h = omega arith in
       let all : before_calls h ≤ length bs = omega arith in
-      ap (after_head bs) (sym front) ∙ cond_true _ _ _ (le-leb _ _ all)
+      ap (after_head bs) (sym front) ∙ cond-true _ _ _ (le-leb _ _ all)
       ∙ ap (λ k. option_map (script_with bs h) (calls_in h.calls (drop k bs))) (sym place)
       ∙ ap (λ l. option_map (script_with bs h) (calls_in h.calls l)) (sym (take_rest bs calls)) ∙ ap (option_map (script_with bs h)) e
 

@@ -1,6 +1,6 @@
 -- Stacks of tries: what a step does to them, and that they are proper.
 use Rattle.std.proofs.Common.{◌≡◌, ℕ, ◌+◌, ◌<◌, ◌≤◌, Bool, true, false, cond, not, List, [], ◌∷◌, length, is_some, Some, None, Option, refl, ap, ◌∙◌, subst, arith}
-use Rattle.std.proofs.lemmas.Bool.{cond_true, cond_false}
+use Rattle.std.proofs.lemmas.Bool.{cond-true, cond-false}
 use Rattle.rules.specs.declared.literals.Literal.{Literal}
 use Rattle.rules.specs.Settings.{Within}
 use Rattle.rules.specs.Constraints.{Constraint, positive}
@@ -14,10 +14,10 @@ use Rattle.search_theory.proofs.Forcing.{extends_trans, extends_put, put_has, fo
 -- the four things that may hold after forcing; where they are known, the step is known
 module _ (n : ℕ) (system : List Constraint) (ts : List Literal) (p : Part) where
   pub step_turn : any_dead p system ≡ true → (o : Option (List Literal)) → turn ts ≡ o → step_from n system ts p ≡ maybe o nothing due
-  step_turn d o t = cond_true (any_dead p system) (maybe (turn ts) nothing due) _ d ∙ ap (λ x. maybe x nothing due) t
+  step_turn d o t = cond-true (any_dead p system) (maybe (turn ts) nothing due) _ d ∙ ap (λ x. maybe x nothing due) t
 
   pub step_try : any_dead p system ≡ false → (o : Option ℕ) → lowest (is_open system p) n ≡ o → step_from n system ts p ≡ maybe o (found (values n p)) (λ v. due (negative v ∷ ts))
-  step_try d o l = cond_false (any_dead p system) _ (maybe (lowest (is_open system p) n) (found (values n p)) (λ v. due (negative v ∷ ts))) d ∙ ap (λ x. maybe x (found (values n p)) (λ v. due (negative v ∷ ts))) l
+  step_try d o l = cond-false (any_dead p system) _ (maybe (lowest (is_open system p) n) (found (values n p)) (λ v. due (negative v ∷ ts))) d ∙ ap (λ x. maybe x (found (values n p)) (λ v. due (negative v ∷ ts))) l
 
   -- and where the step is known, so is which of them holds
   pub data Follows : Course → Type 0 where

@@ -2,7 +2,7 @@
 use Rattle.std.specs.Prelude.{◌≡◌, ℕ, zero, suc, ◌+◌, ◌-◌, ◌<◌, ◌≤◌, max, Bool, true, ◌&&◌, List, [], ◌∷◌, ◌++◌, length, refl}
 use Rattle.std.proofs.Common.{ap, ◌∙◌, arith, length-append}
 use Rattle.std.specs.List.{slice_get}
-use Rattle.std.proofs.lemmas.Bool.{and_parts, and_from, cond_both, cond_true, leb-true}
+use Rattle.std.proofs.lemmas.Bool.{and_parts, and_from, cond_both, cond-true, leb-true}
 use Rattle.std.proofs.lemmas.Bool.Decides.{nat_tests}
 use Rattle.rules.specs.First.{every}
 use Rattle.rules.specs.Constraints.{Constraint, kind, switches}
@@ -55,4 +55,4 @@ paired_lawful a b v w = cond_both (is_short a b) (joined_sheets a b) blank Lawfu
         }
 
 pub paired_is : (a b : Meaning) → is_short a b ≡ true → paired a b ≡ joined_sheets a b
-paired_is a b e = cond_true (is_short a b) (joined_sheets a b) blank e
+paired_is a b e = cond-true (is_short a b) (joined_sheets a b) blank e

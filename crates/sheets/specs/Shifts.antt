@@ -4,7 +4,7 @@ use Rattle.std.proofs.Common.{sym, ap, ◌∙◌, arith}
 use Rattle.std.proofs.lemmas.List.{length-map}
 use Rattle.std.specs.List.{slice_get}
 use Rattle.std.specs.Option.{option_map}
-use Rattle.std.proofs.lemmas.Bool.{and_parts, and_from, cond_both, cond_true, leb-true}
+use Rattle.std.proofs.lemmas.Bool.{and_parts, and_from, cond_both, cond-true, leb-true}
 use Rattle.std.proofs.lemmas.Bool.Decides.{nat_tests}
 use Rattle.rules.specs.declared.literals.Literal.{Literal}
 use Rattle.rules.specs.First.{every}
@@ -89,7 +89,7 @@ told_kind_shifted m k i = ap (option_map kind) (nth_map (shifted_rule k) m.rules
     same (Some r) = ap Some (kind_shifted k r)
 
 pub told_kind_placed : (m : Meaning) (k i : ℕ) → has_room m k ≡ true → told_kind (placed m k) i ≡ told_kind m i
-told_kind_placed m k i e = ap (λ x. told_kind x i) (cond_true (has_room m k) (shifted_sheet k m) blank e) ∙ told_kind_shifted m k i
+told_kind_placed m k i e = ap (λ x. told_kind x i) (cond-true (has_room m k) (shifted_sheet k m) blank e) ∙ told_kind_shifted m k i
 
 told_entry_shifted : (m : Meaning) (k i j : ℕ) → told_entry (shifted_sheet k m) i j ≡ option_map (shifted k) (told_entry m i j)
 told_entry_shifted m k i j = ap (λ o. slice_get (entries_in o) j) (nth_map (shifted_rule k) m.rules i) ∙ same (slice_get m.rules i)
@@ -99,7 +99,7 @@ told_entry_shifted m k i j = ap (λ o. slice_get (entries_in o) j) (nth_map (shi
     same (Some r) = ap (λ es. slice_get es j) (entries_shifted k r) ∙ nth_map (shifted k) (entries r) j
 
 pub told_entry_placed : (m : Meaning) (k i j : ℕ) → has_room m k ≡ true → told_entry (placed m k) i j ≡ option_map (shifted k) (told_entry m i j)
-told_entry_placed m k i j e = ap (λ x. told_entry x i j) (cond_true (has_room m k) (shifted_sheet k m) blank e) ∙ told_entry_shifted m k i j
+told_entry_placed m k i j e = ap (λ x. told_entry x i j) (cond-true (has_room m k) (shifted_sheet k m) blank e) ∙ told_entry_shifted m k i j
 
 entries_inside : (n : ℕ) (r : Constraint) → every (inside n) (switches r) ≡ true → (j : ℕ) (l : Literal) → slice_get (entries r) j ≡ Some l → inside n l.switch ≡ true
 entries_inside n (clause ls) h j l e = every_nth (inside n) (map switch_of ls) j l.switch h (nth_map switch_of ls j ∙ ap (option_map switch_of) e)

@@ -2,7 +2,7 @@
 use Rattle.std.proofs.Common.{◌≡◌, ℕ, zero, suc, ◌<◌, ◌≤◌, Bool, true, false, eqb, leb, List, [], ◌∷◌, map, length, get_or, pos, None, Ok, Option, sym, refl, ap, ◌∙◌, add-one, arith}
 use lib.ListN.{length-map}
 use Rattle.std.proofs.lemmas.List.{get_or-map}
-use Rattle.std.proofs.lemmas.Bool.{and_from, le-leb, ne_eqb, cond_true}
+use Rattle.std.proofs.lemmas.Bool.{and_from, le-leb, ne_eqb, cond-true}
 use Rattle.rules.specs.declared.literals.Literal.{Literal}
 use Rattle.rules.specs.declared.kinds.Kind.TheVariants.{Clause}
 use Rattle.rules.specs.First.{first_of, some_below, verdict}
@@ -69,7 +69,7 @@ module _ (n : ℕ) (most : n ≤ 256) (ls : List Literal) (law : lawful n (claus
       let least = place.some in
       let widest = place.few in
       let wide : width_fits Clause (length (map entry_of ls)) ≡ true = and_from (leb 1 (length (map entry_of ls))) _ (le-leb _ _ (omega arith)) (le-leb _ _ (omega arith)) in
-      cond_true _ _ _ wide ∙ none_found (entry_misfit Clause n (map entry_of ls)) (length (map entry_of ls)) fine_at
+      cond-true _ _ _ wide ∙ none_found (entry_misfit Clause n (map entry_of ls)) (length (map entry_of ls)) fine_at
 
   pub clause_some : 1 ≤ length ls
   clause_some = let same_length = length-map ls switch_of in let least = place.some in omega arith

@@ -2,7 +2,7 @@
 use Rattle.std.proofs.Common.{◌≡◌, ℕ, zero, suc, ◌+◌, ◌-◌, ◌*◌, ◌/◌, ◌%◌, ◌<◌, ◌≤◌, Bool, true, false, cond, List, [], ◌∷◌, ◌++◌, map, length, get_or, drop, ℤ, pos, negsuc, None, refl, ap, ◌∙◌, ap₂, arith}
 use lib.ListN.{length-map}
 use Rattle.std.specs.List.{range_with_len}
-use Rattle.std.proofs.lemmas.Bool.{cond_true, cond_false, lt-ltb, le-ltb, ne_eqb}
+use Rattle.std.proofs.lemmas.Bool.{cond-true, cond-false, lt-ltb, le-ltb, ne_eqb}
 use Rattle.rules.specs.declared.literals.Literal.{Literal}
 use Rattle.rules.specs.Settings.{Within}
 use Rattle.rules.specs.Constraints.{Each}
@@ -22,10 +22,10 @@ pub two_bytes : (w : ℕ) → w < 65536 → word (w % 256) (w / 256 % 256) ≡ w
 two_bytes w h = omega arith
 
 signed_below : (w : ℕ) → w < 32768 → signed w ≡ pos w
-signed_below w h = cond_true _ _ _ (lt-ltb w 32768 h)
+signed_below w h = cond-true _ _ _ (lt-ltb w 32768 h)
 
 signed_above : (w : ℕ) → 32768 ≤ w → signed w ≡ negsuc (65535 - w)
-signed_above w h = cond_false _ _ _ (le-ltb w 32768 h)
+signed_above w h = cond-false _ _ _ (le-ltb w 32768 h)
 
 slot_read : (l : Literal) → InRange l → signed (word (literal_word l % 256) (literal_word l / 256 % 256)) ≡ entry_of l
 slot_read l h = by l.on
@@ -77,7 +77,7 @@ pub used_padded : (k : ℕ) (ls : List Literal) → length ls ≤ k → Each InR
 used_padded zero [] few h = refl
 used_padded zero (l ∷ ls) few h = absurd (omega arith)
 used_padded (suc k) [] few h = refl
-used_padded (suc k) (l ∷ ls) few h = cond_false _ _ _ (entry_filled l h.0) ∙ ap (λ es. entry_of l ∷ es) (used_padded k ls (omega arith) h.1)
+used_padded (suc k) (l ∷ ls) few h = cond-false _ _ _ (entry_filled l h.0) ∙ ap (λ es. entry_of l ∷ es) (used_padded k ls (omega arith) h.1)
 
 -- no slot is filled behind the literals
 none_filled : (k i : ℕ) → filled_from i (padded k []) ≡ None

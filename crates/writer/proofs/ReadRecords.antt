@@ -3,7 +3,7 @@ use Rattle.std.proofs.Common.{◌≡◌, ℕ, zero, suc, ◌+◌, ◌<◌, ◌�
 use lib.ListN.{length-map}
 use Rattle.std.specs.List.{flat_map}
 use Rattle.std.proofs.lemmas.List.{append_assoc, drop_at}
-use Rattle.std.proofs.lemmas.Bool.{and_from, le-leb, eq-eqb, cond_true}
+use Rattle.std.proofs.lemmas.Bool.{and_from, le-leb, eq-eqb, cond-true}
 use Rattle.rules.specs.declared.literals.Literal.{Literal}
 use Rattle.rules.specs.declared.kinds.Kind.TheVariants.{Clause}
 use Rattle.rules.specs.First.{verdict, on_ok}
@@ -33,7 +33,7 @@ module _ (n : ℕ) (most : n ≤ 256) where
       let used : used_slots (padded 8 ls) ≡ map entry_of ls = used_padded 8 ls few ranged in
       let some : leb 1 (length (used_slots (padded 8 ls))) ≡ true =
       le-leb _ _ (let long = ap length used ∙ length-map ls entry_of in let least = clause_some n most ls law in omega arith) in
-      cond_true _ _ _ some
+      cond-true _ _ _ some
       ∙ ap (λ o. unless_gap o (framed 2 18 (built Clause n (used_slots (padded 8 ls))))) (gap_padded 8 ls few ranged)
       ∙ ap (λ es. framed 2 18 (built Clause n es)) used
       ∙ ap (framed 2 18) (built_clause n most ls law)
@@ -46,7 +46,7 @@ module _ (n : ℕ) (most : n ≤ 256) where
 
   -- the end record tells the number of records before it
   good_end : (k p : ℕ) → k < 65536 → end_fault k p (end_bytes k) ≡ None
-  good_end k p h = cond_true _ _ _ (eq-eqb _ _ (two_bytes k h))
+  good_end k p h = cond-true _ _ _ (eq-eqb _ _ (two_bytes k h))
 
   end_read : (more k p : ℕ) → k < 65536 → records first_year n more k p (end_bytes k) ≡ Ok []
   unfolding records
@@ -70,7 +70,7 @@ module _ (n : ℕ) (most : n ≤ 256) where
   pub file_read : (cs : List (List Literal)) → inside 256 n ≡ true → Each (λ ls. lawful n (clause ls) ≡ true) cs → length cs ≤ 1024 → file first_year (file_bytes n cs) ≡ Ok (over n (map clause cs))
   file_read cs some h few =
       let switches : switches_in (file_bytes n cs) ≡ n = two_bytes n (omega arith) in
-      let head : head_fault first_year (file_bytes n cs) ≡ None = cond_true _ _ _ (and_from (leb 4 (length (file_bytes n cs))) _ (le-leb _ _ (omega arith)) (and_from (leb 2 (length (file_bytes n cs))) _ (le-leb _ _ (omega arith)) refl)) ∙ cond_true _ _ _ (ap (inside 256) switches ∙ some) in
+      let head : head_fault first_year (file_bytes n cs) ≡ None = cond-true _ _ _ (and_from (leb 4 (length (file_bytes n cs))) _ (le-leb _ _ (omega arith)) (and_from (leb 2 (length (file_bytes n cs))) _ (le-leb _ _ (omega arith)) refl)) ∙ cond-true _ _ _ (ap (inside 256) switches ∙ some) in
       ap (λ o. after_head o (body first_year (switches_in (file_bytes n cs)) (drop 4 (file_bytes n cs)))) head
       ∙ ap (λ m. body first_year m (drop 4 (file_bytes n cs))) switches
       ∙ ap (on_ok (over n)) (records_read cs 1024 0 4 (length cs) h few (omega arith) (omega arith))

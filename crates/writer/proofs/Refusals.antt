@@ -3,7 +3,7 @@ use Rattle.std.proofs.Common.{◌≡◌, ℕ, ◌+◌, ◌<◌, ◌≤◌, Bool,
 use Rattle.std.specs.List.{slice_get}
 use Rattle.std.proofs.lemmas.List.{at_drop_more, at_drop_all}
 use Rattle.std.proofs.lemmas.Option.{slice_get-get_or}
-use Rattle.std.proofs.lemmas.Bool.{cond_true, cond_false, and_from}
+use Rattle.std.proofs.lemmas.Bool.{cond-true, cond-false, and_from}
 use Rattle.rules.specs.First.{every}
 use Rattle.rules.specs.Constraints.{Constraint, clause}
 use Rattle.writer.specs.Expansion.{is_wide, is_narrow}
@@ -15,10 +15,10 @@ module _ (rules : List Constraint) (i : ℕ) where
   wide_here h = sym (ap wide_in (slice_get-get_or rules i (clause []) h))
 
   pub wide_more : i < length rules → wide_in (slice_get rules i) ≡ false → first_wide i (drop i rules) ≡ first_wide (i + 1) (drop (i + 1) rules)
-  wide_more h e = at_drop_more (first_wide i) rules i (clause []) h ∙ cond_false _ _ _ (wide_here h ∙ e)
+  wide_more h e = at_drop_more (first_wide i) rules i (clause []) h ∙ cond-false _ _ _ (wide_here h ∙ e)
 
   pub wide_found : i < length rules → wide_in (slice_get rules i) ≡ true → first_wide i (drop i rules) ≡ Some i
-  wide_found h e = at_drop_more (first_wide i) rules i (clause []) h ∙ cond_true _ _ _ (wide_here h ∙ e)
+  wide_found h e = at_drop_more (first_wide i) rules i (clause []) h ∙ cond-true _ _ _ (wide_here h ∙ e)
 
   pub wide_none : length rules ≤ i → first_wide i (drop i rules) ≡ None
   wide_none h = at_drop_all (first_wide i) rules i h

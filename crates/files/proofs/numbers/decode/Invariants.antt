@@ -2,5 +2,5 @@ use Rattle.std.proofs.Common.{◌≡◌, length, take}
 use Rattle.files.specs.Numbers.{entries_in}
 use Rattle.files.proofs.numbers.decode.Given as goal
 
-abbrev pub invariant_loop_i : goal.invariant_loop_i
-invariant_loop_i l = (length l.entries ≡ 16) × (take l.i l.entries ≡ entries_in l.i l.bytes)
+abbrev pub invariant-loop-i : goal.invariant-loop-i
+invariant-loop-i l = (length l.entries ≡ 16) × (take l.i l.entries ≡ entries_in l.i l.bytes)

@@ -3,5 +3,5 @@ use Rattle.rules.specs.Views.{constraint}
 use Rattle.parity.specs.Buckets.{LinkedFrom}
 use Rattle.parity.proofs.bucketing.sort_into_buckets.Given as goal
 
-abbrev pub invariant_loop_i : goal.invariant_loop_i
-invariant_loop_i l = (length l.first ≡ 257) × ((length l.next ≡ 2112) × LinkedFrom (map constraint l.rules) l.i l.first l.next)
+abbrev pub invariant-loop-i : goal.invariant-loop-i
+invariant-loop-i l = (length l.first ≡ 257) × ((length l.next ≡ 2112) × LinkedFrom (map constraint l.rules) l.i l.first l.next)

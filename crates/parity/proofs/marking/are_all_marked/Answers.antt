@@ -2,8 +2,8 @@ use Rattle.std.proofs.Common.{◌^◌, ◌≤◌, sym, refl, ◌∙◌, true≢f
 use Rattle.parity.proofs.marking.are_all_marked.Goals as goal
 use Rattle.parity.proofs.marking.are_all_marked.Goals.{else-is-off-side-via-then-is-off-side+else-not-marks-place, else-is-off-side-via-else-is-off-side}
 
-pub bounds_marks_place : goal.bounds_marks_place
-bounds_marks_place c = let few : 2 ^ c.args.width ≤ 2 ^ 5 = pow_mono c.requires.narrow in omega arith
+pub bounds-marks-place : goal.bounds-marks-place
+bounds-marks-place c = let few : 2 ^ c.args.width ≤ 2 ^ 5 = pow_mono c.requires.narrow in omega arith
 
 pub loop-place-preserved : goal.loop-place-preserved
 loop-place-preserved c =

@@ -3,5 +3,5 @@ use Rattle.parity.specs.Places.{values_place}
 use Rattle.parity.proofs.marking.breaking_place.Given as goal
 
 -- the place of the values of the switches from the index on
-abbrev pub invariant_loop_i : goal.invariant_loop_i
-invariant_loop_i l = values_place l.literals (drop l.i l.switches) ≡ Some l.place
+abbrev pub invariant-loop-i : goal.invariant-loop-i
+invariant-loop-i l = values_place l.literals (drop l.i l.switches) ≡ Some l.place

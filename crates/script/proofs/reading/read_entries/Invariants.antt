@@ -2,5 +2,5 @@ use Rattle.std.proofs.Common.{◌≡◌, ◌≤◌, vec_items, vec_len, vec_capa
 use Rattle.files.specs.Numbers.{entries_in}
 use Rattle.script.proofs.reading.read_entries.Given as goal
 
-abbrev pub invariant_loop_i : goal.invariant_loop_i
-invariant_loop_i l = (vec_items l.entries ≡ entries_in l.i l.bytes) × (vec_len l.entries ≡ l.i) × (l.count ≤ vec_capacity l.entries)
+abbrev pub invariant-loop-i : goal.invariant-loop-i
+invariant-loop-i l = (vec_items l.entries ≡ entries_in l.i l.bytes) × (vec_len l.entries ≡ l.i) × (l.count ≤ vec_capacity l.entries)

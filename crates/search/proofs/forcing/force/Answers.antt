@@ -6,11 +6,11 @@ use Rattle.search.proofs.Going.{back_moves, back_dead, front_moves, front_dead, 
 use Rattle.search.proofs.Reduction.{clauses_over, rows_over}
 use Rattle.search.proofs.forcing.force.Goals as goal
 
-pub force_alone_requires : goal.force_alone_requires
-force_alone_requires c = subst (λ (x : List Constraint). Over 256 x) (sym (ap (map row_constraint) c.as-slice.ensures.value)) (rows_over c.args.system.now)
+pub force-alone-requires : goal.force-alone-requires
+force-alone-requires c = subst (λ (x : List Constraint). Over 256 x) (sym (ap (map row_constraint) c.as-slice.ensures.value)) (rows_over c.args.system.now)
 
-pub force_next_requires : goal.force_next_requires
-force_next_requires c = subst (λ (x : List Constraint). Over 256 x) (sym (ap (map clause_constraint) c.as-slice-in-loop-level.ensures.value)) (clauses_over c.args.system.now)
+pub force-next-requires : goal.force-next-requires
+force-next-requires c = subst (λ (x : List Constraint). Over 256 x) (sym (ap (map clause_constraint) c.as-slice-in-loop-level.ensures.value)) (clauses_over c.args.system.now)
 
 pub returns-then-force-alone : goal.returns-then-force-alone
 returns-then-force-alone c =

@@ -5,5 +5,5 @@ use Rattle.search_theory.proofs.Scanning.{Counted}
 use Rattle.search.specs.Values.{part_of}
 use Rattle.search.proofs.rows.look_at_switches.Given as goal
 
-abbrev pub invariant_loop_switch : goal.invariant_loop_switch
-invariant_loop_switch l = (side : Side) → l.initial.odd ≡ is_odd side → Counted (part_of l.values) l.switches side l.unset l.odd (drop l.switch-index l.switches)
+abbrev pub invariant-loop-switch : goal.invariant-loop-switch
+invariant-loop-switch l = (side : Side) → l.initial.odd ≡ is_odd side → Counted (part_of l.values) l.switches side l.unset l.odd (drop l.switch-index l.switches)

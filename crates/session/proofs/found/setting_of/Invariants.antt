@@ -3,7 +3,7 @@ use Rattle.search_theory.specs.Tries.{found}
 use Rattle.search.specs.Searches.{course_of}
 use Rattle.session.proofs.found.setting_of.Given as goal
 
-abbrev pub invariant_loop_i : goal.invariant_loop_i
-invariant_loop_i l =
+abbrev pub invariant-loop-i : goal.invariant-loop-i
+invariant-loop-i l =
     ((s : List Bool) → course_of l.search ≡ found s → take l.i l.values ≡ take l.i s)
     × (length l.values ≡ 256)

@@ -2,5 +2,5 @@ use Rattle.std.proofs.Common.{◌≡◌, ◌++◌, map, take, drop}
 use Rattle.rules.specs.Rows.{bit}
 use Rattle.session.proofs.writing.write_setting.Given as goal
 
-abbrev pub invariant_loop_i : goal.invariant_loop_i
-invariant_loop_i l = l.out ≡ map bit (take l.i l.setting.values) ++ drop l.i l.initial.out
+abbrev pub invariant-loop-i : goal.invariant-loop-i
+invariant-loop-i l = l.out ≡ map bit (take l.i l.setting.values) ++ drop l.i l.initial.out

@@ -4,5 +4,5 @@ use Rattle.sheets.specs.Views.{draft}
 use Rattle.sheets.proofs.Tabled.{checked_only}
 use Rattle.sheets.proofs.tabling.check_table.Given as goal
 
-abbrev pub invariant_loop_i : goal.invariant_loop_i
-invariant_loop_i l = checked_only (table_rules l.n l.i (map draft (drop l.i l.rules))) ≡ checked_only (table_rules l.n 0 (map draft l.rules))
+abbrev pub invariant-loop-i : goal.invariant-loop-i
+invariant-loop-i l = checked_only (table_rules l.n l.i (map draft (drop l.i l.rules))) ≡ checked_only (table_rules l.n 0 (map draft l.rules))

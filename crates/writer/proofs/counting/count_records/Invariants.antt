@@ -3,7 +3,7 @@ use Rattle.writer.specs.Expansion.{clauses_of}
 use Rattle.writer.specs.Writing.{first_wide}
 use Rattle.writer.proofs.counting.count_records.Given as goal
 
-abbrev pub invariant_loop_i : goal.invariant_loop_i
-invariant_loop_i g l =
+abbrev pub invariant-loop-i : goal.invariant-loop-i
+invariant-loop-i g l =
     (l.records ≤ 16 * l.i) × (l.records ≡ length (clauses_of (take l.i (g.S.Sheet.meaning l.sheet).rules)))
     × (first_wide l.i (drop l.i (g.S.Sheet.meaning l.sheet).rules) ≡ first_wide 0 (g.S.Sheet.meaning l.sheet).rules)

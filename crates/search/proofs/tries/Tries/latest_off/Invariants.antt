@@ -3,5 +3,5 @@ use Rattle.search_theory.specs.Tries.{turn}
 use Rattle.search.specs.Stacks.{stack}
 use Rattle.search.proofs.tries.Tries.latest_off.Given as goal
 
-abbrev pub invariant_loop_i : goal.invariant_loop_i
-invariant_loop_i l = turn (stack l.self.table l.i) ≡ turn (stack l.self.table l.self.count)
+abbrev pub invariant-loop-i : goal.invariant-loop-i
+invariant-loop-i l = turn (stack l.self.table l.i) ≡ turn (stack l.self.table l.self.count)
