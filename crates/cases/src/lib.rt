@@ -1,4 +1,6 @@
 // Sheets at the edges of what is lawful, made, told and written.
+#![tactic(auto)]
+
 #[cfg(test)]
 mod piles;
 #[cfg(test)]

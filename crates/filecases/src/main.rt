@@ -1,4 +1,6 @@
 // Checks and reads each of the files that standard input holds, and prints what came of it.
+#![tactic(auto)]
+
 use anyhow::anyhow;
 use files::any::{check_any, read_any};
 use sheets::sheet::Sheet;

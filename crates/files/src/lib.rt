@@ -1,4 +1,6 @@
 // Files of rules, of either generation: checked, and read into a table.
+#![tactic(auto)]
+
 pub mod any;
 mod example;
 pub mod first_year;

@@ -1,4 +1,6 @@
 // The parity rules that stand, reduced to rows, and the number of free switches.
+#![tactic(auto)]
+
 mod bucketing;
 mod buckets;
 mod clearing;

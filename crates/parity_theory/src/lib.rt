@@ -1,5 +1,7 @@
 // What clauses and parity rules imply: recovered parity rules, the reduced system, and the number of settings.
 // The functions compute nothing; their contracts bear the theorems.
+#![tactic(auto)]
+
 ghost use Rattle.parity_theory.specs.Claims.{OddOnCounts, RecoveryRight, ReductionRight, FreedomRight};
 ghost use Rattle.parity_theory.specs.Cases.{CasesHold};
 

@@ -1,5 +1,5 @@
 -- What a session tells, as the report has it.
-use Rattle.std.proofs.Common.{◌≡◌, ℕ, length, Ok, Err, Option, Result, sym, refl, ap, ◌∙◌, arith}
+use Rattle.std.proofs.Common.{◌≡◌, ℕ, length, Ok, Err, Option, Result, refl, ap, ◌∙◌, arith}
 use Rattle.rules.specs.declared.faults.Fault.{Fault}
 use Rattle.text.specs.Refusals.{refused_line}
 use Rattle.sheets.specs.Meaning.{Meaning, check_of, or_blank}

@@ -1,10 +1,9 @@
 -- What is built is lawful, by recursion and by place.
-use Rattle.std.proofs.Common.{◌≡◌, ℕ, zero, suc, ◌<◌, ◌≤◌, Bool, true, false, cond, not, ◌&&◌, eqb, leb, ◌⊎◌, List, [], ◌∷◌, ◌++◌, map, length, get_or, ℤ, pos, Some, None, Ok, Err, Option, Result, sym, refl, ap, ◌∙◌, subst, ⊎_elim, arith}
+use Rattle.std.proofs.Common.{◌≡◌, ℕ, zero, suc, ◌<◌, Bool, true, false, cond, not, ◌&&◌, eqb, leb, List, [], ◌∷◌, ◌++◌, map, length, get_or, ℤ, pos, Some, None, Ok, Err, Option, Result, sym, refl, ap, ◌∙◌, subst, ⊎_elim, arith}
 use lib.ListN.{length-map}
 use Rattle.std.specs.Option.{option_or}
-use Rattle.std.proofs.lemmas.Bool.{cases_lt, and_parts, and_from, or_parts, not-true, leb-true, le-leb, eqb-false, ne_eqb, eq-eqb, not_from_false, true≢false}
+use Rattle.std.proofs.lemmas.Bool.{cases_lt, and_parts, and_from, or_parts, not-true, leb-true, eqb-false, ne_eqb, eq-eqb, not_from_false, true≢false}
 use Rattle.std.proofs.lemmas.List.{get_or-map}
-use Rattle.rules.specs.declared.literals.Literal.{Literal}
 use Rattle.rules.specs.declared.kinds.Kind.{Kind}
 use Rattle.rules.specs.declared.kinds.Kind.TheVariants.{Clause, Parity}
 use Rattle.rules.specs.declared.kinds.RawKind.{RawKind}
@@ -12,12 +11,11 @@ use Rattle.rules.specs.declared.faults.Layer.{Layer}
 use Rattle.rules.specs.declared.faults.Cause.TheVariants.{Width}
 use Rattle.rules.specs.declared.faults.Misfit.{Misfit}
 use Rattle.rules.specs.First.{first_of, some_below, every, unless, verdict}
-use Rattle.rules.specs.Settings.{Within}
 use Rattle.rules.specs.Constraints.{Constraint, kind, switches, switch_of}
-use Rattle.rules.specs.Lawful.{width_fits, inside, absent, different, lawful, Lawful, widest}
+use Rattle.rules.specs.Lawful.{width_fits, inside, absent, different, lawful, Lawful}
 use Rattle.rules.specs.Faults.{fault}
 use Rattle.rules.specs.Checks.{as_fault, on_err, kind_of, raw_width_fits, checked_kind, checked}
-use Rattle.rules.specs.Entries.{literal, named_switch, sign_fits, literal_fits, named, entry_misfit, entries_misfit, rule_misfit, rule_of, built}
+use Rattle.rules.specs.Entries.{literal, named_switch, literal_fits, named, entries_misfit, rule_misfit, rule_of, built}
 
 some_none : {X P : Type 0} (x : X) → Some x ≡ None → P
 some_none x h = let z : ◌≡◌ {A = ℕ} 0 1 = cc in absurd (omega arith)

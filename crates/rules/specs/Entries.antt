@@ -1,5 +1,5 @@
 -- Rules from outside: numbers for entries, and a number for a side.
-use Rattle.std.specs.Prelude.{ℕ, suc, Bool, true, false, cond, not, ◌&&◌, List, [], map, length, ℤ, pos, negsuc, Some, None, Option, Result, ◌==◌, nat_eq, slice_index_or}
+use Rattle.std.specs.Prelude.{ℕ, suc, Bool, true, false, cond, not, ◌&&◌, List, map, length, ℤ, pos, negsuc, Some, None, Option, Result, ◌==◌, nat_eq, slice_index_or}
 use Rattle.rules.specs.declared.literals.Literal.{Literal}
 use Rattle.rules.specs.declared.kinds.Side.{Side}
 use Rattle.rules.specs.declared.kinds.Side.TheVariants.{Even, Odd}

@@ -1,4 +1,6 @@
 // Rules over numbered switches: what they are, which are lawful, and why one is refused.
+#![tactic(auto)]
+
 pub mod building;
 pub mod checks;
 pub mod clauses;

@@ -1,4 +1,6 @@
 // The search for the earliest setting that keeps a reduced system of clauses and rows: forcing, tries, and going on by a budget.
+#![tactic(auto)]
+
 pub mod clauses;
 pub mod forcing;
 pub mod looking;

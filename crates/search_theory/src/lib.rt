@@ -1,5 +1,7 @@
 // The search by forcing and tries: what it ends with, and after how many tries.
 // The functions compute nothing; their contracts bear the theorems.
+#![tactic(auto)]
+
 ghost use Rattle.search_theory.specs.Theorems.{ForcingSettled, EndsRight, TriesBounded, CoursesRight};
 ghost use Rattle.search_theory.specs.Table.{TableComputed};
 

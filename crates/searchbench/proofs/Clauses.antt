@@ -1,5 +1,5 @@
 -- Lawful clauses alone are a reduced system.
-use Rattle.std.proofs.Common.{◌≡◌, ℕ, ◌<◌, Bool, true, ◌&&◌, leb, List, [], ◌∷◌, ◌++◌, map, length, get_or, sym, ap, ◌∙◌, arith}
+use Rattle.std.proofs.Common.{◌≡◌, ℕ, ◌<◌, true, leb, List, [], ◌∷◌, ◌++◌, map, length, get_or, sym, ap, ◌∙◌, arith}
 use lib.ListN.{length-map}
 use Rattle.std.proofs.lemmas.List.{get_or-map, map_push}
 use Rattle.std.proofs.lemmas.Bool.{and_parts, leb-true}
@@ -9,7 +9,7 @@ use Rattle.rules.specs.declared.rule.Rule.{Rule}
 use Rattle.rules.specs.declared.rule.Rule.TheVariants.{Clause as RuleClause}
 use Rattle.rules.specs.First.{every}
 use Rattle.rules.specs.Settings.{Within}
-use Rattle.rules.specs.Constraints.{Constraint, clause, Each, kind, switches, switch_of}
+use Rattle.rules.specs.Constraints.{Constraint, Each, kind, switches, switch_of}
 use Rattle.rules.specs.Lawful.{lawful, width_fits, inside}
 use Rattle.rules.specs.Rows.{Member, Apart, Reduced}
 use Rattle.rules.specs.Views.{constraint, clause_constraint}

@@ -1,4 +1,6 @@
 // Searches a sheet of clauses for the earliest setting that keeps them, with a budget of 300,000 tries, and prints the end and the tries. For measuring the search alone: parity rules of the sheet are left out.
+#![tactic(auto)]
+
 ghost use Rattle.std.specs.Prelude.{◌≡◌, true, map, IfOk};
 ghost use Rattle.rules.specs.First.{every};
 ghost use Rattle.rules.specs.Lawful.{lawful};

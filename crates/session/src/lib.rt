@@ -1,4 +1,6 @@
 // A session over any sheet: rules are taken into its margin, and settings that keep all rules are sought by a budget of tries.
+#![tactic(auto)]
+
 mod answering;
 pub mod call;
 pub mod calls;

@@ -1,5 +1,7 @@
 // A session over a sheet: what its calls are, and what holds through all of them.
 // The functions compute nothing; their contracts bear the theorems.
+#![tactic(auto)]
+
 ghost use Rattle.session_theory.specs.System.{SystemsRight};
 ghost use Rattle.session_theory.specs.Law.{Law, CallsLawful};
 ghost use Rattle.session_theory.specs.Worked.{Worked};

@@ -1,4 +1,6 @@
 // Reads a script from standard input, makes its calls on a session over its sheet, and prints the replies.
+#![tactic(auto)]
+
 use script::answering::answer_script;
 use std::io::Read;
 

@@ -1,4 +1,6 @@
 // Reads a sheet file from standard input, and writes the sheet in DIMACS CNF or the line that tells its refusal.
+#![tactic(auto)]
+
 use anyhow::anyhow;
 use cnf::convert::convert;
 use std::io::{Read, Write};

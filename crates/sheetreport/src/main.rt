@@ -1,4 +1,6 @@
 // Reads a sheet file from standard input, settles it, and writes the report or the line that tells its refusal.
+#![tactic(auto)]
+
 use anyhow::anyhow;
 use report::reporting::write_report;
 use std::io::{Read, Write};

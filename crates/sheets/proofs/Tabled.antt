@@ -1,7 +1,7 @@
 -- The walk over the drafts of a table.
-use Rattle.std.proofs.Common.{◌≡◌, ℕ, ◌+◌, ◌<◌, ◌≤◌, Bool, true, false, List, [], ◌∷◌, ◌++◌, map, length, get_or, drop, ℤ, is_err, Ok, Err, vec_items, Result, sym, refl, ap, ◌∙◌, arith}
+use Rattle.std.proofs.Common.{◌≡◌, ℕ, ◌+◌, ◌<◌, ◌≤◌, true, false, List, [], ◌∷◌, ◌++◌, map, length, get_or, drop, ℤ, is_err, Ok, Err, vec_items, Result, sym, refl, ap, ◌∙◌, arith}
 use lib.ListN.{length-map}
-use Rattle.std.proofs.lemmas.List.{at_drop_more, at_drop_all, append-nil, append_assoc}
+use Rattle.std.proofs.lemmas.List.{at_drop_more, at_drop_all, append_assoc}
 use Rattle.rules.specs.declared.faults.Layer.TheVariants as layer
 use Rattle.rules.specs.declared.faults.Fault.{Fault}
 use Rattle.rules.specs.First.{on_ok}
@@ -9,7 +9,7 @@ use Rattle.rules.specs.Constraints.{Constraint}
 use Rattle.rules.specs.Checks.{checked}
 use Rattle.sheets.specs.declared.raw.RawRule.{RawRule}
 use Rattle.sheets.specs.Meaning.{check_of, or_blank, blank}
-use Rattle.sheets.specs.Tables.{Draft, then, table_rules, table_size, over, table}
+use Rattle.sheets.specs.Tables.{then, table_rules, table_size, over, table}
 use Rattle.sheets.specs.Views.{draft}
 
 -- the rules before those of a result

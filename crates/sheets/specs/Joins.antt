@@ -1,12 +1,12 @@
 -- Two sheets, one after the other.
-use Rattle.std.specs.Prelude.{◌≡◌, ℕ, zero, suc, ◌+◌, ◌-◌, ◌<◌, ◌≤◌, max, Bool, true, ◌&&◌, List, [], ◌∷◌, ◌++◌, length, refl}
+use Rattle.std.specs.Prelude.{◌≡◌, ℕ, zero, suc, ◌-◌, ◌<◌, ◌≤◌, max, Bool, true, List, [], ◌∷◌, ◌++◌, length, refl}
 use Rattle.std.proofs.Common.{ap, ◌∙◌, arith, length-append}
 use Rattle.std.specs.List.{slice_get}
 use Rattle.std.proofs.lemmas.Bool.{and_parts, and_from, cond_both, cond-true, leb-true}
 use Rattle.std.proofs.lemmas.Bool.Decides.{nat_tests}
 use Rattle.rules.specs.First.{every}
 use Rattle.rules.specs.Constraints.{Constraint, kind, switches}
-use Rattle.rules.specs.Lawful.{lawful, width_fits, inside, different}
+use Rattle.rules.specs.Lawful.{lawful, width_fits, inside}
 use Rattle.sheets.specs.Meaning.{Meaning, LawfulSheet, blank}
 use Rattle.sheets.specs.Piles.{joined_sheets, is_short, paired}
 use Rattle.sheets.specs.Shifts.{blank_lawful}

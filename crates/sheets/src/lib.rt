@@ -1,4 +1,6 @@
 // Sheets: what any of them tells, the table in memory, and the piles made of other sheets.
+#![tactic(auto)]
+
 pub mod pair;
 pub mod placing;
 pub mod raw;

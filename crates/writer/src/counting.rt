@@ -25,7 +25,7 @@ pub(crate) fn refuse(cause: Cause, record: u16) -> Fault
 
 // How many records rule i takes: one for a clause, and one for each of the patterns that break a parity rule, which are half of them. None, where a parity rule has more than five switches.
 fn records_of<S: Sheet>(sheet: &S, i: usize) -> Option<usize>
-    ensures { Counted (slice_get (meaning sheet.now).rules i) result }
+    ensures { Counted (slice_get (S.Sheet.meaning sheet.now).rules i) result }
 {
     match sheet.kind(i) {
         Some(Kind::Clause) => Some(1),
@@ -42,7 +42,7 @@ fn records_of<S: Sheet>(sheet: &S, i: usize) -> Option<usize>
 
 // How many records the rules take, or the first rule that is too wide.
 fn count_records<S: Sheet>(sheet: &S) -> Result<usize, Fault>
-    ensures { result ≡ verdict (unless_wide (first_wide 0 (meaning sheet.now).rules) None) (length (clauses_of (meaning sheet.now).rules)) }
+    ensures { result ≡ verdict (unless_wide (first_wide 0 (S.Sheet.meaning sheet.now).rules) None) (length (clauses_of (S.Sheet.meaning sheet.now).rules)) }
 {
     let mut records = 0;
     for i in 0..sheet.count() {
@@ -56,7 +56,7 @@ fn count_records<S: Sheet>(sheet: &S) -> Result<usize, Fault>
 
 // How many records the file of the sheet has, or the first reason to refuse it.
 pub(crate) fn check_sheet<S: Sheet>(sheet: &S) -> Result<usize, Fault>
-    ensures { result ≡ record_count (meaning sheet.now) }
+    ensures { result ≡ record_count (S.Sheet.meaning sheet.now) }
 {
     let n = sheet.switches();
     if n < 1 || n > 256 {

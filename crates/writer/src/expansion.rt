@@ -49,8 +49,8 @@ fn put_parity(out: &mut [u8], k: usize, switches: &[Literal], side: Side) -> usi
 
 // Rule i of the sheet, behind the first k records; tells the number of records then.
 fn put_rule<S: Sheet>(out: &mut [u8], k: usize, sheet: &S, i: usize) -> usize
-    requires { (every is_narrow (meaning sheet.now).rules ≡ true) × (Room (clauses_at (meaning sheet.now) i) k out.old) }
-    ensures { Put (clauses_at (meaning sheet.now) i) k out.old out.new result }
+    requires { (every is_narrow (S.Sheet.meaning sheet.now).rules ≡ true) × (Room (clauses_at (S.Sheet.meaning sheet.now) i) k out.old) }
+    ensures { Put (clauses_at (S.Sheet.meaning sheet.now) i) k out.old out.new result }
 {
     let entries = entries_of(sheet, i);
     match sheet.kind(i) {
@@ -62,8 +62,8 @@ fn put_rule<S: Sheet>(out: &mut [u8], k: usize, sheet: &S, i: usize) -> usize
 
 // All rules of the sheet, from the first record on; tells the number of records.
 pub(crate) fn put_rules<S: Sheet>(out: &mut [u8], sheet: &S) -> usize
-    requires { (every is_narrow (meaning sheet.now).rules ≡ true) × (Room (clauses_of (meaning sheet.now).rules) 0 out.old) }
-    ensures { Put (clauses_of (meaning sheet.now).rules) 0 out.old out.new result }
+    requires { (every is_narrow (S.Sheet.meaning sheet.now).rules ≡ true) × (Room (clauses_of (S.Sheet.meaning sheet.now).rules) 0 out.old) }
+    ensures { Put (clauses_of (S.Sheet.meaning sheet.now).rules) 0 out.old out.new result }
 {
     let mut records = 0;
     for i in 0..sheet.count() {

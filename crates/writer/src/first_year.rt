@@ -24,8 +24,8 @@ fn check_room(room: usize, length: usize) -> Result<(), Fault>
 
 // Head, records and end, where there is room for them.
 fn put_file<S: Sheet>(out: &mut [u8], sheet: &S)
-    requires { (Writable (meaning sheet.now)) × (8 + 18 * length (clauses_of (meaning sheet.now).rules) ≤ length out.old) }
-    ensures { out.new ≡ over_front (first_year_bytes (meaning sheet.now)) out.old }
+    requires { (Writable (S.Sheet.meaning sheet.now)) × (8 + 18 * length (clauses_of (S.Sheet.meaning sheet.now).rules) ≤ length out.old) }
+    ensures { out.new ≡ over_front (first_year_bytes (S.Sheet.meaning sheet.now)) out.old }
 {
     let [low, high] = sheet.switches().to_le_bytes();
     put(out, 0, &[b'F', b'1', low, high]);
@@ -36,8 +36,8 @@ fn put_file<S: Sheet>(out: &mut [u8], sheet: &S)
 
 // The file of the sheet at the front of the buffer, and its length; what lies behind it in the buffer stays. Nothing is written where the sheet is refused or the buffer is shorter than the file. What was written passes the first-year check and means a sheet of as many switches that the same settings keep.
 pub fn write_first_year<S: Sheet>(sheet: &S, out: &mut [u8]) -> Result<usize, Fault>
-    ensures outcome { Outcome (writing (meaning sheet.now)) out.old out.new result }
-    ensures reads_back { ReadsBack (meaning sheet.now) out.new result }
+    ensures outcome { Outcome (writing (S.Sheet.meaning sheet.now)) out.old out.new result }
+    ensures reads_back { ReadsBack (S.Sheet.meaning sheet.now) out.new result }
 {
     let records = check_sheet(sheet)?;
     let length = 8 + 18 * records;

@@ -16,7 +16,7 @@ pub(crate) struct RuleEntries {
 // The entries of rule i; none, where there is no rule i.
 pub(crate) fn entries_of<S: Sheet>(sheet: &S, i: usize) -> RuleEntries
     ensures few { result.width ≤ 16 }
-    ensures same { take result.width result.literals ≡ entries_in (slice_get (meaning sheet.now).rules i) }
+    ensures same { take result.width result.literals ≡ entries_in (slice_get (S.Sheet.meaning sheet.now).rules i) }
 {
     let mut literals = [Literal {
         switch: 0,

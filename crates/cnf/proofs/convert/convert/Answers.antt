@@ -1,4 +1,4 @@
-use Rattle.std.proofs.Common.{◌≡◌, ℕ, Ok, Err, Result, sym, refl, ap, subst, arith}
+use Rattle.std.proofs.Common.{◌≡◌, ℕ, Ok, Err, Result, ap, subst, arith}
 use Rattle.rules.specs.declared.faults.Fault.{Fault}
 use Rattle.sheets.specs.Meaning.{Meaning, check_of}
 use Rattle.files.specs.Any.{any_file}
@@ -13,5 +13,5 @@ refused_text (Err g) f h = let same : f ≡ g = cc in ap refused_line same
 
 pub returns-in-Err : goal.returns-in-Err
 returns-in-Err c =
-    subst (λ bs. WrittenOr bs c.args.out.now c.write-refusal.new.out c.write-refusal.result)
-    (refused_text (any_file c.args.input.now) c.in-Err.fault c.in-Err.ensures) c.write-refusal.ensures
+    subst (λ bs. WrittenOr bs c.args.out.now c.write_refusal.new.out c.write_refusal.result)
+    (refused_text (any_file c.args.input.now) c.in-Err.fault c.in-Err.ensures) c.write_refusal.ensures

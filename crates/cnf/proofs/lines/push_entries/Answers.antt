@@ -1,4 +1,4 @@
-use Rattle.std.proofs.Common.{◌≡◌, ◌++◌, string_bytes, ap, ◌∙◌, arith}
+use Rattle.std.proofs.Common.{◌++◌, string_bytes, ap, ◌∙◌, arith}
 use Rattle.std.specs.List.{slice_get, flat_map}
 use Rattle.std.proofs.lemmas.List.{take_all}
 use Rattle.sheets.specs.Meaning.{entries_in}
@@ -10,7 +10,7 @@ use Rattle.cnf.proofs.lines.push_entries.Goals as goal
 pub loop-j-preserved : goal.loop-j-preserved
 loop-j-preserved g c =
     let es = entries_in (slice_get (g.S.Sheet.meaning c.args.sheet.now).rules c.args.i) in
-    c.in-ok-push-entry.ensures ∙ (λ t. c.loop-j.invariant t ++ optional entry_text (c.entry.ensures t)) ∙ joined_nth entry_text (string_bytes c.args.text.now) es c.loop-j.j
+    c.in_ok-push_entry.ensures ∙ (λ t. c.loop-j.invariant t ++ optional entry_text (c.entry.ensures t)) ∙ joined_nth entry_text (string_bytes c.args.text.now) es c.loop-j.j
 
 pub returns : goal.returns
 returns g c =

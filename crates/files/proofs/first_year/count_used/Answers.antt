@@ -3,8 +3,8 @@ use Rattle.files.specs.FirstFormat.{is_empty}
 use Rattle.files.specs.Slots.{used_more, used_found, used_all}
 use Rattle.files.proofs.first_year.count_used.Goals as goal
 
-pub returns-then-is-empty : goal.returns-then-is-empty
-returns-then-is-empty c =
+pub returns-then-is_empty : goal.returns-then-is_empty
+returns-then-is_empty c =
     let empty : is_empty (get_or c.args.slots.now c.loop-i.i (pos 0)) ≡ true = search rules in
     record { within = omega arith; front = used_found _ _ c.loop-i.invariant c.loop-i-test.true empty }
 

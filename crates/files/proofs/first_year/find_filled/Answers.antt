@@ -3,8 +3,8 @@ use Rattle.files.specs.FirstFormat.{is_empty}
 use Rattle.files.specs.Slots.{filled_more, filled_here, filled_none}
 use Rattle.files.proofs.first_year.find_filled.Goals as goal
 
-pub returns-then-not-is-empty : goal.returns-then-not-is-empty
-returns-then-not-is-empty c =
+pub returns-then-not-is_empty : goal.returns-then-not-is_empty
+returns-then-not-is_empty c =
     let filled : is_empty (get_or c.args.slots.now c.loop-i.i (pos 0)) ≡ false = search rules in
     sym (filled_here _ _ c.loop-i-test.true filled) ∙ c.loop-i.invariant
 

@@ -2,12 +2,12 @@ use Rattle.std.proofs.Common.{sym, arith}
 use Rattle.files.specs.Slots.{gap_within}
 use Rattle.files.proofs.first_year.read_slots.Goals as goal
 
-pub overflow-mul-result : goal.overflow-mul-result
-overflow-mul-result c =
-    let at = gap_within c.args.slots.now c.count-used-used.result c.in-Some.i c.count-used-used.ensures.within (sym c.in-Some.ensures) in
+pub overflow_mul-result : goal.overflow_mul-result
+overflow_mul-result c =
+    let at = gap_within c.args.slots.now c.count_used-used.result c.in-Some.i c.count_used-used.ensures.within (sym c.in-Some.ensures) in
     omega (arith, c.requires)
 
-pub overflow-add-result : goal.overflow-add-result
-overflow-add-result c =
-    let at = gap_within c.args.slots.now c.count-used-used.result c.in-Some.i c.count-used-used.ensures.within (sym c.in-Some.ensures) in
+pub overflow_add-result : goal.overflow_add-result
+overflow_add-result c =
+    let at = gap_within c.args.slots.now c.count_used-used.result c.in-Some.i c.count_used-used.ensures.within (sym c.in-Some.ensures) in
     omega (arith, c.requires)

@@ -10,11 +10,11 @@ records-init g c = ([], start _ _ _)
 
 pub records-preserved : goal.records-preserved
 records-preserved g c =
-    (_, onward c.records.invariant.1 c.in-Some.record _ _ c.in-Some.is c.in-ok-record.ensures (take_rest c.records.rest.now c.in-Some.record.size))
+    (_, onward c.records.invariant.1 c.in-Some.record _ _ c.in-Some.is c.in_ok-record.ensures (take_rest c.records.rest.now c.in-Some.record.size))
 
 pub returns : goal.returns
 returns g c =
     record {
-      value = sym (ap check_of (ended c.records.invariant.1 _ c.in-default.is c.in-ok-record.ensures));
+      value = sym (ap check_of (ended c.records.invariant.1 _ c.in_default.is c.in_ok-record.ensures));
       lawful = body_lawful _ g.met.G.Generation.sound c.args.n c.args.records.now;
     }

@@ -3,4 +3,4 @@ use Rattle.std.proofs.lemmas.List.{take_rest}
 use Rattle.files.proofs.reading.read_head.Goals as goal
 
 pub returns : goal.returns
-returns g c = record { faultless = search rules; switches = c.number-of-n.ensures; part = take_rest c.args.bytes.now 4; long = omega (arith, ltb-false); most = omega arith }
+returns g c = record { faultless = search rules; switches = c.number_of-n.ensures; part = take_rest c.args.bytes.now 4; long = omega (arith, ltb-false); most = omega arith }

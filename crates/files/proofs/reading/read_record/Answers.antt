@@ -5,16 +5,16 @@ use Rattle.files.specs.Formats.{read_as}
 use Rattle.files.proofs.Steps.{at_good_end, at_bad_end, at_limit, at_flaw, at_rule}
 use Rattle.files.proofs.reading.read_record.Goals as goal
 
-pub returns-in-err-check-end : goal.returns-in-err-check-end
-returns-in-err-check-end g c =
-    let p = err_from_is_err_and c.from-residual.result c.from-residual.ensures.1 in
-    rw (p.1, p.2) (at_bad_end _ _ _ _ _ _ (sym c.in-default.ensures) c.in-err-check-end.ensures)
+pub returns-in_err-check_end : goal.returns-in_err-check_end
+returns-in_err-check_end g c =
+    let p = err_from_is_err_and c.from_residual.result c.from_residual.ensures.1 in
+    rw (p.1, p.2) (at_bad_end _ _ _ _ _ _ (sym c.in_default.ensures) c.in_err-check_end.ensures)
 
-pub returns-in-default : goal.returns-in-default
-returns-in-default g c = at_good_end _ _ _ _ _ (sym c.in-default.ensures) c.in-ok-check-end.ensures
+pub returns-in_default : goal.returns-in_default
+returns-in_default g c = at_good_end _ _ _ _ _ (sym c.in_default.ensures) c.in_ok-check_end.ensures
 
-pub returns-then-rules-ge-MAX-RULES : goal.returns-then-rules-ge-MAX-RULES
-returns-then-rules-ge-MAX-RULES g c = at_limit _ _ _ _ _ _ (sym c.in-Some.ensures) c.if-rules-ge-MAX-RULES.true ∙ ap Err (sym c.refuse.ensures)
+pub returns-then-rules-ge-MAX_RULES : goal.returns-then-rules-ge-MAX_RULES
+returns-then-rules-ge-MAX_RULES g c = at_limit _ _ _ _ _ _ (sym c.in-Some.ensures) c.if-rules-ge-MAX_RULES.true ∙ ap Err (sym c.refuse.ensures)
 
 pub returns-in-Ok : goal.returns-in-Ok
 returns-in-Ok g c =

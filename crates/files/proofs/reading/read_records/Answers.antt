@@ -9,14 +9,14 @@ use Rattle.files.proofs.reading.read_records.Goals as goal
 pub records-init : goal.records-init
 records-init g c = known_as _ _ (ap (map constraint) (sym c.new-all.ensures.items)) (start _ _ _)
 
-pub invariant-of-result : goal.invariant-of-result
-invariant-of-result g c =
-    let whole = ended c.records.invariant _ c.in-default-found.is c.in-Ok.ensures in
+pub invariant_of-result : goal.invariant_of-result
+invariant_of-result g c =
+    let whole = ended c.records.invariant _ c.in_default-found.is c.in-Ok.ensures in
     let keeps = body_lawful _ g.met.G.Generation.sound c.args.n c.args.records.now _ c.requires.narrow whole in
-    (keeps.sheet.narrow, (omega (arith, keeps.few, length-map c.records.all.items constraint, c.records.all.ok.0), (keeps.sheet.sound, tt)))
+    record { narrow = keeps.sheet.narrow; short = omega (arith, keeps.few, length-map c.records.all.items constraint, c.records.all.ok.0); sound = keeps.sheet.sound }
 
 pub records-preserved : goal.records-preserved
 records-preserved g c =
     known_as _ _
-    (sym (ap (map constraint) c.in-ok-push.ensures.items ∙ map_push constraint c.records.all.items c.in-Some.record.rule))
+    (sym (ap (map constraint) c.in_ok-push.ensures.items ∙ map_push constraint c.records.all.items c.in-Some.record.rule))
     (onward c.records.invariant c.in-Some.record _ _ c.in-Some.is c.in-Ok.ensures (take_rest c.records.rest.now c.in-Some.record.size))

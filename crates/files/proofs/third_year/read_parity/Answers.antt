@@ -7,6 +7,6 @@ use Rattle.files.proofs.third_year.read_parity.Goals as goal
 
 pub returns : goal.returns
 returns c =
-    c.read-entries.ensures
+    c.read_entries.ensures
     ∙ ap (listed (Parity c.in-Some.side) c.args.n 4 c.args.width) (take_rest c.args.rest.now 1)
-    ∙ sym (parity_listed c.args.n c.args.width c.args.rest.now c.in-Some.side (sym c.if-not-width-fits.ensures) c.if-rest-width.false (sym c.in-Some.ensures))
+    ∙ sym (parity_listed c.args.n c.args.width c.args.rest.now c.in-Some.side (sym c.if-not-width_fits.ensures) c.if-rest-width.false (sym c.in-Some.ensures))

@@ -16,10 +16,10 @@ loop-i-preserved c =
     let size = length-map rules constraint in
     let j = c.loop-i.i - 1 in
     let rule = c.index-rules-i.result in
-    let is = c.bucket-of-bucket.ensures ∙ ap (λ r. bucket (constraint r)) c.index-rules-i.is ∙ sym (ap bucket (get_or-map constraint rules j rule no_rule (omega arith))) in (
+    let is = c.bucket_of-bucket.ensures ∙ ap (λ r. bucket (constraint r)) c.index-rules-i.is ∙ sym (ap bucket (get_or-map constraint rules j rule no_rule (omega arith))) in (
       simp length-set c.loop-i.invariant.0,
       (
         simp length-set c.loop-i.invariant.1.0,
-        linked_more (map constraint rules) c.loop-i.i j c.loop-i.first c.loop-i.next c.bucket-of-bucket.result _ (omega arith) (omega arith) c.loop-i.invariant.0 c.loop-i.invariant.1.0 is refl c.loop-i.invariant.1.1,
+        linked_more (map constraint rules) c.loop-i.i j c.loop-i.first c.loop-i.next c.bucket_of-bucket.result _ (omega arith) (omega arith) c.loop-i.invariant.0 c.loop-i.invariant.1.0 is refl c.loop-i.invariant.1.1,
       ),
     )

@@ -8,7 +8,7 @@ use Rattle.parity.proofs.clearing.clear_all.Goals as goal
 pub loop-row-preserved : goal.loop-row-preserved
 loop-row-preserved c =
     let rest = drop (c.loop-row.row-index + 1) c.args.rows.now in
-    fold_more (λ l e. cleared (map solved_row l) e) c.args.rows.now c.loop-row.row-index c.row-item.result (equation_in c.loop-row.equation) _ c.loop-row-test.true c.row-item.is (ap (cleared (map solved_row rest)) (sym c.clear-one.ensures))
+    fold_more (λ l e. cleared (map solved_row l) e) c.args.rows.now c.loop-row.row-index c.row-item.result (equation_in c.loop-row.equation) _ c.loop-row-test.true c.row-item.is (ap (cleared (map solved_row rest)) (sym c.clear_one.ensures))
     ∙ c.loop-row.invariant
 
 pub returns : goal.returns

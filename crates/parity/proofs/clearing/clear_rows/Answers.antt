@@ -12,7 +12,7 @@ loop-row-preserved c =
     let f = without (solved_row c.args.new.now) in
     let ys = c.loop-row.rows in
     let old = get_or ys c.loop-row.row-index c.row-item.result in (
-      changed_more solved_row f c.args.rows.now ys c.loop-row.row-index old _ here size c.loop-row.invariant.0 c.loop-row.invariant.1 (ap (get_or ys c.loop-row.row-index) c.row-item.is) (ap (row (suc old.index)) c.clear-one.ensures),
+      changed_more solved_row f c.args.rows.now ys c.loop-row.row-index old _ here size c.loop-row.invariant.0 c.loop-row.invariant.1 (ap (get_or ys c.loop-row.row-index) c.row-item.is) (ap (row (suc old.index)) c.clear_one.ensures),
       unchanged_more solved_row f c.args.rows.now ys c.loop-row.row-index old _ here size c.loop-row.invariant.1,
     )
 

@@ -19,8 +19,8 @@ within switches w i h l k =
     let p = and_parts _ _ (ap (inside 256) (sym (get_or-take w switches i 0 l)) ∙ every_at (inside 256) (take w switches) 0 h i (omega arith)) in
     (leb-true 1 (get_or switches i 0) p.0, leb-true (get_or switches i 0) 256 p.1)
 
-pub overflow-sub-members : goal.overflow-sub-members
-overflow-sub-members c = (within c.args.rule.now.switches c.args.rule.now.width c.loop-i.i c.requires c.loop-i-test.true (search rules)).0
+pub overflow_sub-members : goal.overflow_sub-members
+overflow_sub-members c = (within c.args.rule.now.switches c.args.rule.now.width c.loop-i.i c.requires c.loop-i-test.true (search rules)).0
 
 pub bounds-members-rule : goal.bounds-members-rule
 bounds-members-rule c =
@@ -37,4 +37,4 @@ pub returns : goal.returns
 returns c =
     let full : c.loop-i.i ≡ c.args.rule.now.width = omega arith in
     let members = members_set c.loop-i.members (switches_of c.args.rule.now) c.loop-i.invariant.0 (λ k h. c.loop-i.invariant.1 k h ∙ ap (λ w. not (absent (suc k) (take w c.args.rule.now.switches))) full) in
-    ap₂ (λ m b. record { members = m; odd = b }) members c.is-odd.ensures
+    ap₂ (λ m b. record { members = m; odd = b }) members c.is_odd.ensures

@@ -14,8 +14,8 @@ joined_items n old cleared rest new size h =
 
 pub returns : goal.returns
 returns c =
-    let old = ap (λ l. map (without (solved_row c.args.new)) (map solved_row l)) c.as-mut-slice.ensures.value in
+    let old = ap (λ l. map (without (solved_row c.args.new)) (map solved_row l)) c.as_mut_slice.ensures.value in
     record {
-      rows = ap (map solved_row) c.push-reserved.ensures.items ∙ joined_items c.args.rows.now.len (vec_items c.args.rows.now) c.clear-rows.new.rows _ c.args.new (omega arith) (c.clear-rows.ensures ∙ old);
-      room = c.push-reserved.ensures.capacity;
+      rows = ap (map solved_row) c.push_reserved.ensures.items ∙ joined_items c.args.rows.now.len (vec_items c.args.rows.now) c.clear_rows.new.rows _ c.args.new (omega arith) (c.clear_rows.ensures ∙ old);
+      room = c.push_reserved.ensures.capacity;
     }

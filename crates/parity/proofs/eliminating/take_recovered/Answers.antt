@@ -8,14 +8,14 @@ use Rattle.parity.specs.States.{rows_so_far}
 use Rattle.parity.proofs.Gathered.{gathered_more, taken_equations, rule_lawful}
 use Rattle.parity.proofs.eliminating.take_recovered.Goals as goal
 
-pub recovered-equation-requires : goal.recovered-equation-requires
-recovered-equation-requires c = record { rules = c.requires.rules; linked = c.sort-into-buckets-buckets.ensures; rule = rule_lawful c.args.rules.now c.loop-rule.rule-index c.rule-item.result c.requires.rules c.loop-rule-test.true c.rule-item.is }
+pub recovered_equation-requires : goal.recovered_equation-requires
+recovered_equation-requires c = record { rules = c.requires.rules; linked = c.sort_into_buckets-buckets.ensures; rule = rule_lawful c.args.rules.now c.loop-rule.rule-index c.rule-item.result c.requires.rules c.loop-rule-test.true c.rule-item.is }
 
 pub loop-rule-preserved : goal.loop-rule-preserved
 loop-rule-preserved c =
     let rules = c.args.rules.now in (
-      subst OfEquations (sym c.take-any.ensures) (taken_equations (rows_so_far c.loop-rule.elimination) _ c.loop-rule.invariant.0),
-      gathered_more (recovered_by (clauses (map constraint rules))) rules c.loop-rule.rule-index c.rule-item.result _ (rows_so_far c.loop-rule.elimination) _ c.loop-rule-test.true c.rule-item.is c.recovered-equation.ensures c.take-any.ensures
+      subst OfEquations (sym c.take_any.ensures) (taken_equations (rows_so_far c.loop-rule.elimination) _ c.loop-rule.invariant.0),
+      gathered_more (recovered_by (clauses (map constraint rules))) rules c.loop-rule.rule-index c.rule-item.result _ (rows_so_far c.loop-rule.elimination) _ c.loop-rule-test.true c.rule-item.is c.recovered_equation.ensures c.take_any.ensures
           ∙ c.loop-rule.invariant.1,
     )
 

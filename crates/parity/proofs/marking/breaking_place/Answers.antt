@@ -22,11 +22,11 @@ returns-in-None c =
 small : (ls : List Literal) (vs : List ℕ) (i p : ℕ) → length vs ≤ 5 → values_place ls (drop i vs) ≡ Some p → p < 32
 small ls vs i p l h = let e = length-drop i vs in small_place ls (drop i vs) p (omega arith) h
 
-pub overflow-mul-place : goal.overflow-mul-place
-overflow-mul-place c = omega (arith, small c.args.literals.now c.args.switches.now c.loop-i.i c.loop-i.place c.requires c.loop-i.invariant)
+pub overflow_mul-place : goal.overflow_mul-place
+overflow_mul-place c = omega (arith, small c.args.literals.now c.args.switches.now c.loop-i.i c.loop-i.place c.requires c.loop-i.invariant)
 
-pub overflow-add-place : goal.overflow-add-place
-overflow-add-place c = omega (arith, small c.args.literals.now c.args.switches.now c.loop-i.i c.loop-i.place c.requires c.loop-i.invariant, byte_bit c.in-Some.on, bit_small c.in-Some.on)
+pub overflow_add-place : goal.overflow_add-place
+overflow_add-place c = omega (arith, small c.args.literals.now c.args.switches.now c.loop-i.i c.loop-i.place c.requires c.loop-i.invariant, byte_bit c.in-Some.on, bit_small c.in-Some.on)
 
 pub loop-i-preserved : goal.loop-i-preserved
 loop-i-preserved c =

@@ -6,8 +6,8 @@ use Rattle.parity.specs.Places.{off_side_at}
 use Rattle.parity.proofs.Recovered.{decided}
 use Rattle.parity.proofs.recovery.is_recovered.Goals as goal
 
-pub mark-bucket-requires : goal.mark-bucket-requires
-mark-bucket-requires c =
+pub mark_bucket-requires : goal.mark_bucket-requires
+mark_bucket-requires c =
     let ok = lawful_proper 256 (parity c.args.switches.now c.args.side) c.requires.rule in
     record { rules = c.requires.rules; linked = c.requires.linked; ranged = ok.ranged; apart = ok.apart; narrow = c.requires.narrow; bucket = c.requires.bucket; size = search rules }
 
@@ -15,5 +15,5 @@ pub returns : goal.returns
 returns c =
     let vs = c.args.switches.now in
     let side = c.args.side in
-    decided (map constraint c.args.rules.now) c.requires.rules vs side (lawful_proper 256 (parity vs side) c.requires.rule) c.requires.narrow c.are-all-marked.result
-    (subst (λ (m : List Bool). Decides c.are-all-marked.result ((k : ℕ) → k < 2 ^ length vs → off_side_at side k ≡ true → get_or m k false ≡ true)) c.mark-bucket.ensures c.are-all-marked.ensures)
+    decided (map constraint c.args.rules.now) c.requires.rules vs side (lawful_proper 256 (parity vs side) c.requires.rule) c.requires.narrow c.are_all_marked.result
+    (subst (λ (m : List Bool). Decides c.are_all_marked.result ((k : ℕ) → k < 2 ^ length vs → off_side_at side k ≡ true → get_or m k false ≡ true)) c.mark_bucket.ensures c.are_all_marked.ensures)

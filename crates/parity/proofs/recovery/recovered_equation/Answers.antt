@@ -9,6 +9,6 @@ pub returns-in-Clause : goal.returns-in-Clause
 returns-in-Clause c =
     let cs = clauses (map constraint c.args.rules.now) in
     let whole : c.in-Clause.clause.width - 0 ≡ c.in-Clause.clause.width = omega arith in
-    c.recovered-from.ensures
+    c.recovered_from.ensures
     ∙ ap (λ k. recovered_by cs (clause (take k c.in-Clause.clause.literals))) whole
     ∙ ap (λ r. recovered_by cs (constraint r)) (sym c.in-Clause.is)

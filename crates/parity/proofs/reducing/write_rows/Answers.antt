@@ -11,8 +11,8 @@ loop-row-init c = (ap (map row_constraint) (nil_from_length (vec_items c.args.ro
 
 pub loop-row-preserved : goal.loop-row-preserved
 loop-row-preserved c = (
-  ap (map row_constraint) c.push-reserved.ensures.items
-      ∙ written_more (vec_items c.loop-row.rows) c.args.solved.now c.loop-row.row-index c.row-item.result _ c.loop-row-test.true c.row-item.is c.row-of.ensures c.loop-row.invariant.0,
+  ap (map row_constraint) c.push_reserved.ensures.items
+      ∙ written_more (vec_items c.loop-row.rows) c.args.solved.now c.loop-row.row-index c.row-item.result _ c.loop-row-test.true c.row-item.is c.row_of.ensures c.loop-row.invariant.0,
   search rules,
   search rules,
 )

@@ -1,4 +1,4 @@
-use Rattle.std.proofs.Common.{◌≡◌, ℕ, ◌-◌, min, Bool, ◌⊎◌, List, length, take, string_bytes, sym, ap, ◌∙◌, ⊎_elim, arith, rules}
+use Rattle.std.proofs.Common.{◌≡◌, ℕ, ◌-◌, min, Bool, List, length, take, string_bytes, sym, ap, ◌∙◌, ⊎_elim, arith, rules}
 use Rattle.std.specs.List.{flat_map}
 use Rattle.std.proofs.lemmas.List.{take_all}
 use Rattle.std.proofs.lemmas.Result.{IfOk-weaker}
@@ -18,6 +18,6 @@ cut xs w k long e =
 pub returns : goal.returns
 returns c =
     let long : length c.args.setting.now.values ≡ 256 = search rules in
-    IfOk-weaker c.values-text.result _ (λ s. string_bytes s ≡ flat_map value_text (values_in c.args.setting.now))
+    IfOk-weaker c.values_text.result _ (λ s. string_bytes s ≡ flat_map value_text (values_in c.args.setting.now))
     (λ s e. e ∙ ap (flat_map value_text) (cut c.args.setting.now.values c.args.setting.now.width c.min-width.result long c.min-width.ensures))
-    c.values-text.ensures
+    c.values_text.ensures

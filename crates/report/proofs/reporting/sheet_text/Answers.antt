@@ -9,5 +9,5 @@ pub returns : goal.returns
 returns g c =
     let m = g.S.Sheet.meaning c.args.sheet.now in
     IfOk-weaker c.report_lines.result _ (λ s. string_bytes s ≡ sheet_report m)
-    (λ s e. e ∙ told_lines m (session_of c.in-ok-session.session) _ _ _ _ _ _ _ c.in-ok-session.ensures.opened c.switches.ensures c.count.ensures c.freedom-freedom.ensures.happens c.settle-settled.ensures.happens)
+    (λ s e. e ∙ told_lines m (session_of c.in_ok-session.session) _ _ _ _ _ _ _ c.in_ok-session.ensures.opened c.switches.ensures c.count.ensures c.freedom-freedom.ensures.happens c.settle-settled.ensures.happens)
     c.report_lines.ensures

@@ -7,10 +7,10 @@ use Rattle.rules.proofs.building.build_rule.Goals as goal
 
 pub returns-in-Clause : goal.returns-in-Clause
 returns-in-Clause c =
-    let whole : Ok (clause (literals_of c.clause-of.result)) ≡ built c.args.kind c.args.n c.args.entries.now = search rules in
+    let whole : Ok (clause (literals_of c.clause_of.result)) ≡ built c.args.kind c.args.n c.args.entries.now = search rules in
     record { value = whole; lawful = lawful_by_place _ _ (built_lawful c.args.kind c.args.n c.args.entries.now _ whole) }
 
 pub returns-in-Parity : goal.returns-in-Parity
 returns-in-Parity c =
-    let whole : Ok (parity (switches_of c.parity-of.result) c.parity-of.result.side) ≡ built c.args.kind c.args.n c.args.entries.now = search rules in
+    let whole : Ok (parity (switches_of c.parity_of.result) c.parity_of.result.side) ≡ built c.args.kind c.args.n c.args.entries.now = search rules in
     record { value = whole; lawful = lawful_by_place _ _ (built_lawful c.args.kind c.args.n c.args.entries.now _ whole) }

@@ -1,5 +1,4 @@
-use Rattle.std.proofs.Common.{◌≡◌, map, get_or, take, pos, ap, ◌∙◌, arith, length-set, rules}
-use Rattle.std.proofs.lemmas.List.{take_all}
+use Rattle.std.proofs.Common.{◌≡◌, get_or, pos, arith, length-set, rules}
 use Rattle.rules.specs.Entries.{literal}
 use Rattle.rules.proofs.Places.{fill_more, fill_all}
 use Rattle.rules.proofs.building.clause_of.Goals as goal

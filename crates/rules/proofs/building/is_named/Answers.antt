@@ -11,9 +11,9 @@ loop-j-init c = some_none _
 pub loop-j-preserved : goal.loop-j-preserved
 loop-j-preserved c =
     let this : c.literal_of.result ≡ literal (get_or c.args.entries.now c.loop-j.j (pos 0)) = search rules in
-    some_more _ _ c.loop-j.invariant (ne_eqb _ _ (λ e. c.if-literal-of-switch.false (ap switch_of this ∙ e)))
+    some_more _ _ c.loop-j.invariant (ne_eqb _ _ (λ e. c.if-literal_of-switch.false (ap switch_of this ∙ e)))
 
-pub returns-then-literal-of-switch : goal.returns-then-literal-of-switch
-returns-then-literal-of-switch c =
+pub returns-then-literal_of-switch : goal.returns-then-literal_of-switch
+returns-then-literal_of-switch c =
     let this : c.literal_of.result ≡ literal (get_or c.args.entries.now c.loop-j.j (pos 0)) = search rules in
-    sym (some_found _ _ _ (eq-eqb _ _ (sym (ap switch_of this) ∙ c.if-literal-of-switch.true)) c.loop-j-test.true)
+    sym (some_found _ _ _ (eq-eqb _ _ (sym (ap switch_of this) ∙ c.if-literal_of-switch.true)) c.loop-j-test.true)

@@ -1,4 +1,4 @@
-use Rattle.std.proofs.Common.{◌≡◌, get_or, pos, refl, ap, ◌∙◌, arith, length-set, rules}
+use Rattle.std.proofs.Common.{◌≡◌, get_or, pos, refl, ap, arith, length-set, rules}
 use Rattle.rules.specs.Constraints.{switch_of}
 use Rattle.rules.specs.Entries.{literal, named_switch}
 use Rattle.rules.proofs.Places.{fill_more, fill_all}

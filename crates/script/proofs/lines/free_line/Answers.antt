@@ -6,5 +6,5 @@ use Rattle.script.proofs.lines.free_line.Goals as goal
 pub returns : goal.returns
 returns c =
     IfOk-weaker c.format.result _ (λ s. string_bytes s ≡ free_line c.args.freedom)
-    (λ s e. e ∙ ap (λ t. codes "free " ++ (t ++ codes "\n")) (c.as-str-f.ensures.value ∙ c.in-ok-f.ensures))
+    (λ s e. e ∙ ap (λ t. codes "free " ++ (t ++ codes "\n")) (c.as_str-f.ensures.value ∙ c.in_ok-f.ensures))
     c.format.ensures.ok

@@ -7,8 +7,8 @@ use Rattle.script.proofs.lines.refusals_text.Goals as goal
 
 pub loop-verdict-preserved : goal.loop-verdict-preserved
 loop-verdict-preserved c =
-    more_joined refusal_text c.args.verdicts.now c.loop-verdict.verdict-index (get_or c.args.verdicts.now c.loop-verdict.verdict-index (Ok tt)) (Ok tt) (string_bytes c.loop-verdict.text) c.as-str.result.now (string_bytes c.push-str.new.self)
-    c.loop-verdict-test.true refl c.loop-verdict.invariant (c.as-str.ensures.value ∙ c.in-ok-line.ensures) c.in-ok-push-str.ensures.bytes
+    more_joined refusal_text c.args.verdicts.now c.loop-verdict.verdict-index (get_or c.args.verdicts.now c.loop-verdict.verdict-index (Ok tt)) (Ok tt) (string_bytes c.loop-verdict.text) c.as_str.result.now (string_bytes c.push_str.new.self)
+    c.loop-verdict-test.true refl c.loop-verdict.invariant (c.as_str.ensures.value ∙ c.in_ok-line.ensures) c.in_ok-push_str.ensures.bytes
 
 pub returns : goal.returns
 returns c = c.loop-verdict.invariant ∙ ap (flat_map refusal_text) (take_all c.loop-verdict.verdict-index c.args.verdicts.now (omega arith))

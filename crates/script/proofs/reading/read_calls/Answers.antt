@@ -9,31 +9,31 @@ use Rattle.script.proofs.reading.read_calls.Goals as goal
 
 pub loop-i-init : goal.loop-i-init
 loop-i-init c =
-    let fresh = c.in-ok-calls.ensures in
+    let fresh = c.in_ok-calls.ensures in
     (known_as _ _ (ap (map asked) (sym fresh.items)) (start c.args.count c.args.bytes.now), fresh.len, search rules)
 
-pub returns-in-err-record : goal.returns-in-err-record
-returns-in-err-record c =
-    let p = err_from_is_err_and c.from-residual-in-err-record.result c.from-residual-in-err-record.ensures.1 in
-    rw (p.1, p.2) (failed c.loop-i.invariant.0 _ c.loop-i-test.true c.in-err-record.ensures)
+pub returns-in_err-record : goal.returns-in_err-record
+returns-in_err-record c =
+    let p = err_from_is_err_and c.from_residual-in_err-record.result c.from_residual-in_err-record.ensures.1 in
+    rw (p.1, p.2) (failed c.loop-i.invariant.0 _ c.loop-i-test.true c.in_err-record.ensures)
 
-pub slice-bounds-rest-count : goal.slice-bounds-rest-count
-slice-bounds-rest-count c = size_within c.loop-i.rest.now (read_as c.in-ok-record.record) c.in-ok-record.ensures
+pub slice_bounds-rest-count : goal.slice_bounds-rest-count
+slice_bounds-rest-count c = size_within c.loop-i.rest.now (read_as c.in_ok-record.record) c.in_ok-record.ensures
 
-pub slice-bounds-rest-start : goal.slice-bounds-rest-start
-slice-bounds-rest-start c = size_within c.loop-i.rest.now (read_as c.in-ok-record.record) c.in-ok-record.ensures
+pub slice_bounds-rest-start : goal.slice_bounds-rest-start
+slice_bounds-rest-start c = size_within c.loop-i.rest.now (read_as c.in_ok-record.record) c.in_ok-record.ensures
 
 pub loop-i-preserved : goal.loop-i-preserved
 loop-i-preserved c =
-    let record_read = c.in-ok-record.record in (
-      known_as _ _ (sym (ap (map asked) c.push-reserved.ensures.items ∙ map_push asked (vec_items c.loop-i.calls) record_read.call))
-          (onward c.loop-i.invariant.0 (read_as record_read) _ c.loop-i-test.true c.in-ok-record.ensures (take_rest c.loop-i.rest.now record_read.size)),
+    let record_read = c.in_ok-record.record in (
+      known_as _ _ (sym (ap (map asked) c.push_reserved.ensures.items ∙ map_push asked (vec_items c.loop-i.calls) record_read.call))
+          (onward c.loop-i.invariant.0 (read_as record_read) _ c.loop-i-test.true c.in_ok-record.ensures (take_rest c.loop-i.rest.now record_read.size)),
       search rules,
       search rules,
     )
 
-pub returns-then-not-is-empty : goal.returns-then-not-is-empty
-returns-then-not-is-empty c = overlong c.loop-i.invariant.0 c.loop-i-test.false (sym c.if-not-is-empty.ensures)
+pub returns-then-not-is_empty : goal.returns-then-not-is_empty
+returns-then-not-is_empty c = overlong c.loop-i.invariant.0 c.loop-i-test.false (sym c.if-not-is_empty.ensures)
 
 pub returns : goal.returns
-returns c = ended c.loop-i.invariant.0 c.loop-i-test.false (sym c.if-not-is-empty.ensures)
+returns c = ended c.loop-i.invariant.0 c.loop-i-test.false (sym c.if-not-is_empty.ensures)

@@ -11,23 +11,23 @@ read-requires c = each_in (Within 256) c.args.switches.now c.loop-switch.switch-
 
 pub returns-in-Some-unset : goal.returns-in-Some-unset
 returns-in-Some-unset c =
-    switch_second (part_of c.args.values.now) c.args.switches.now c.args.side c.loop-switch.switch-index c.loop-switch-test.true c.loop-switch.unset c.loop-switch.odd c.in-Some-unset.-first c.in-Some-unset.is (c.in-None.ensures ∙ c.read.ensures) (c.loop-switch.invariant c.args.side c.is-odd-odd.ensures)
+    switch_second (part_of c.args.values.now) c.args.switches.now c.args.side c.loop-switch.switch-index c.loop-switch-test.true c.loop-switch.unset c.loop-switch.odd c.in-Some-unset._first c.in-Some-unset.is (c.in-None.ensures ∙ c.read.ensures) (c.loop-switch.invariant c.args.side c.is_odd-odd.ensures)
 
 pub loop-switch-preserved : goal.loop-switch-preserved
 loop-switch-preserved c =
-    λ side e. elim c.match-on-or-off.branch [
-      | in-Some w ↦ switch_set (part_of c.args.values.now) c.args.switches.now side c.loop-switch.switch-index c.loop-switch-test.true c.loop-switch.unset c.match-on-or-off.unset c.loop-switch.odd c.match-on-or-off.odd w.in-Some.on w.unset-is (w.odd-is ∙ unlike_xor c.loop-switch.odd w.in-Some.on) (sym (w.in-Some.ensures ∙ c.read.ensures)) (c.loop-switch.invariant side e)
-      | in-None+in-None-unset w ↦ switch_unset (part_of c.args.values.now) c.args.switches.now side c.loop-switch.switch-index c.loop-switch-test.true c.loop-switch.unset c.match-on-or-off.unset c.loop-switch.odd c.match-on-or-off.odd w.in-None-unset.is w.unset-is w.odd-is (w.in-None.ensures ∙ c.read.ensures) (c.loop-switch.invariant side e)
+    λ side e. elim c.match-on_or_off.branch [
+      | in-Some w ↦ switch_set (part_of c.args.values.now) c.args.switches.now side c.loop-switch.switch-index c.loop-switch-test.true c.loop-switch.unset c.match-on_or_off.unset c.loop-switch.odd c.match-on_or_off.odd w.in-Some.on w.unset-is (w.odd-is ∙ unlike_xor c.loop-switch.odd w.in-Some.on) (sym (w.in-Some.ensures ∙ c.read.ensures)) (c.loop-switch.invariant side e)
+      | in-None+in-None-unset w ↦ switch_unset (part_of c.args.values.now) c.args.switches.now side c.loop-switch.switch-index c.loop-switch-test.true c.loop-switch.unset c.match-on_or_off.unset c.loop-switch.odd c.match-on_or_off.odd w.in-None-unset.is w.unset-is w.odd-is (w.in-None.ensures ∙ c.read.ensures) (c.loop-switch.invariant side e)
     ]
 
 pub returns-in-Some-unset-2 : goal.returns-in-Some-unset-2
 returns-in-Some-unset-2 c =
-    switches_force (part_of c.args.values.now) c.args.switches.now c.args.side c.loop-switch.switch-index c.loop-switch-test.false c.loop-switch.unset c.loop-switch.odd (c.loop-switch.invariant c.args.side c.is-odd-odd.ensures) c.in-Some-unset-2.last c.in-Some-unset-2.is
+    switches_force (part_of c.args.values.now) c.args.switches.now c.args.side c.loop-switch.switch-index c.loop-switch-test.false c.loop-switch.unset c.loop-switch.odd (c.loop-switch.invariant c.args.side c.is_odd-odd.ensures) c.in-Some-unset-2.last c.in-Some-unset-2.is
 
 pub returns-then-odd : goal.returns-then-odd
 returns-then-odd c =
-    switches_dead (part_of c.args.values.now) c.args.switches.now c.args.side c.loop-switch.switch-index c.loop-switch-test.false c.loop-switch.unset c.loop-switch.odd (c.loop-switch.invariant c.args.side c.is-odd-odd.ensures) c.in-None-unset-2.is c.if-odd.true
+    switches_dead (part_of c.args.values.now) c.args.switches.now c.args.side c.loop-switch.switch-index c.loop-switch-test.false c.loop-switch.unset c.loop-switch.odd (c.loop-switch.invariant c.args.side c.is_odd-odd.ensures) c.in-None-unset-2.is c.if-odd.true
 
 pub returns-else-odd : goal.returns-else-odd
 returns-else-odd c =
-    switches_quiet (part_of c.args.values.now) c.args.switches.now c.args.side c.loop-switch.switch-index c.loop-switch-test.false c.loop-switch.unset c.loop-switch.odd (c.loop-switch.invariant c.args.side c.is-odd-odd.ensures) c.in-None-unset-2.is c.if-odd.false
+    switches_quiet (part_of c.args.values.now) c.args.switches.now c.args.side c.loop-switch.switch-index c.loop-switch-test.false c.loop-switch.unset c.loop-switch.odd (c.loop-switch.invariant c.args.side c.is_odd-odd.ensures) c.in-None-unset-2.is c.if-odd.false

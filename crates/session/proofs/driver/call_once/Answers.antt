@@ -12,8 +12,8 @@ pub returns-in-Take : goal.returns-in-Take
 returns-in-Take c =
     let rule = c.in-Take.rule in
     let r = c.take.result in
-    one_performed (session_of c.args.session.now) (session_of c.take.new.self) c.args.call.now (Take rule) (Took r) (took rule.kind c.as-slice.result.now r) c.in-Take.is
-    (ap (λ es. took rule.kind es r) c.as-slice.ensures.value) c.take.ensures.happens
+    one_performed (session_of c.args.session.now) (session_of c.take.new.self) c.args.call.now (Take rule) (Took r) (took rule.kind c.as_slice.result.now r) c.in-Take.is
+    (ap (λ es. took rule.kind es r) c.as_slice.ensures.value) c.take.ensures.happens
 
 pub returns-in-Freedom : goal.returns-in-Freedom
 returns-in-Freedom c =
@@ -27,11 +27,11 @@ returns-in-Settle c =
     let b = c.in-Settle.budget in
     one_performed (session_of c.args.session.now) (session_of c.settle.new.self) c.args.call.now (Settle b) (Settled r) (settle_entry b r) c.in-Settle.is refl c.settle.ensures.happens
 
-pub returns-in-ok-bytes : goal.returns-in-ok-bytes
-returns-in-ok-bytes c =
+pub returns-in_ok-bytes-in-Copy : goal.returns-in_ok-bytes-in-Copy
+returns-in_ok-bytes-in-Copy c =
     let s = session_of c.args.session.now in
-    let r = c.copy_reply.result in
-    let old = c.as-mut-slice.ensures.value ∙ c.in-ok-bytes.ensures in
-    let new = c.copy_reply.new.out in
-    one_performed s s c.args.call.now (Copy c.in-Copy.length) _ (copied c.as-mut-slice.result.now r new) c.in-Copy.is
-    (ap₂ (λ a b. copied a r b) old (sym (take_at new _ c.in-ok-bytes.bytes.len (omega arith)))) c.copy_reply.ensures.happens
+    let r = c.copy-reply.result in
+    let old = c.as_mut_slice.ensures.value ∙ c.in_ok-bytes-in-Copy.ensures in
+    let new = c.copy-reply.new.out in
+    one_performed s s c.args.call.now (Copy c.in-Copy.length) _ (copied c.as_mut_slice.result.now r new) c.in-Copy.is
+    (ap₂ (λ a b. copied a r b) old (sym (take_at new _ c.in_ok-bytes-in-Copy.bytes.len (omega arith)))) c.copy-reply.ensures.happens

@@ -8,8 +8,8 @@ loop-i-preserved c =
     let inv = c.loop-i.invariant in (
       λ s e.
           let long = found_long c.args.search.now s e in
-          values_more s c.loop-i.values c.loop-i.i c.value-or-off.result (omega (arith, long, c.requires, c.from-width.ensures)) (omega (arith, inv.1, c.args.search.now.system.few, c.requires, c.from-width.ensures))
-          (c.value-or-off.ensures s e (omega arith, omega (arith, c.requires, c.from-width.ensures))) (inv.0 s e),
+          values_more s c.loop-i.values c.loop-i.i c.value_or_off.result (omega (arith, long, c.requires, c.from-width.ensures)) (omega (arith, inv.1, c.args.search.now.system.few, c.requires, c.from-width.ensures))
+          (c.value_or_off.ensures s e (omega arith, omega (arith, c.requires, c.from-width.ensures))) (inv.0 s e),
       length-set c.loop-i.values _ _ ∙ inv.1,
     )
 

@@ -8,35 +8,34 @@ use Rattle.session_theory.proofs.Laws.{opened_recorded}
 use Rattle.session.proofs.Settles.{opened_is}
 use Rattle.session.proofs.opening.open.Goals as goal
 
-pub invariant-of-result : goal.invariant-of-result
-invariant-of-result g c =
+pub invariant_of-result : goal.invariant_of-result
+invariant_of-result g c =
     let m = g.S.Sheet.meaning c.args.sheet.now in
     let law = g.met.S.Sheet.lawful c.args.sheet.now in
-    let copied = c.in-ok-rules.ensures in
-    let rules = c.in-ok-rules.rules in
+    let copied = c.in_ok-rules.ensures in
+    let rules = c.in_ok-rules.rules in
     let long = ap length copied.rules in
     let items = length-map (vec_items rules.rules) constraint in
     let len = rules.rules.ok.0 in
-    let searches = c.in-ok-search.ensures in (
-      omega (arith, c.len-count.ensures, long, items, len, law.short),
-      (
-        omega (arith, c.len-count.ensures),
-        (
-          omega (arith, c.len-count.ensures),
-          (
-            omega (arith, c.len-count.ensures, long, items, len, copied.room),
-            (searches.clauses, (searches.rows, (c.reduce.ensures.switches, (∣ c.reduce.ensures.rows ∣₁, (∣ tt ∣₁, tt))))),
-          ),
-        ),
-      ),
-    )
+    let searches = c.in_ok-search.ensures in
+    record {
+      few = omega (arith, c.len-count.ensures, long, items, len, law.short);
+      margin = omega (arith, c.len-count.ensures);
+      sheet = omega (arith, c.len-count.ensures);
+      room = omega (arith, c.len-count.ensures, long, items, len, copied.room);
+      clauses = searches.clauses;
+      rows = searches.rows;
+      switches = c.reduce.ensures.switches;
+      reduced = ∣ c.reduce.ensures.rows ∣₁;
+      searched = ∣ tt ∣₁;
+    }
 
 pub returns : goal.returns
 returns g c =
     let m = g.S.Sheet.meaning c.args.sheet.now in
-    let copied = c.in-ok-rules.ensures in
-    let rules = c.in-ok-rules.rules in
+    let copied = c.in_ok-rules.ensures in
+    let rules = c.in_ok-rules.rules in
     let items = length-map (vec_items rules.rules) constraint in
     let len = rules.rules.ok.0 in
-    let is = opened_is m rules.switches c.len-count.result (standing_rules rules) (course_of c.in-ok-search.search) copied.switches copied.rules (omega (arith, c.len-count.ensures, items, len)) in
+    let is = opened_is m rules.switches c.len-count.result (standing_rules rules) (course_of c.in_ok-search.search) copied.switches copied.rules (omega (arith, c.len-count.ensures, items, len)) in
     record { opened = is; recorded = subst (Recorded m []) (sym is) (opened_recorded m) }

@@ -7,7 +7,7 @@ use Rattle.session.proofs.restarting.add_clause.Goals as goal
 
 pub returns-in-Clause : goal.returns-in-Clause
 returns-in-Clause c = record {
-  clauses = ap (map clause_constraint) c.push-reserved.ensures.items ∙ map_push clause_constraint (vec_items c.args.clauses.now) _
+  clauses = ap (map clause_constraint) c.push_reserved.ensures.items ∙ map_push clause_constraint (vec_items c.args.clauses.now) _
       ∙ ap (λ r. map clause_constraint (vec_items c.args.clauses.now) ++ map clause (clauses (constraint r ∷ []))) (sym c.in-Clause.is);
   few = search rules;
   room = search rules;

@@ -9,7 +9,7 @@ use Rattle.session.proofs.restarting.fill_clauses.Goals as goal
 pub loop-rule-preserved : goal.loop-rule-preserved
 loop-rule-preserved c =
     let inv = c.loop-rule.invariant in (
-      c.add-clause.ensures.clauses ∙ clauses_more c.args.rules.now c.loop-rule.rule-index c.rule-item.result _ _ c.loop-rule-test.true c.rule-item.is inv.0,
+      c.add_clause.ensures.clauses ∙ clauses_more c.args.rules.now c.loop-rule.rule-index c.rule-item.result _ _ c.loop-rule-test.true c.rule-item.is inv.0,
       search rules,
       search rules,
     )

@@ -7,7 +7,7 @@ loop-row-preserved c =
     let inv = c.loop-row.invariant in
     let rs = c.args.given.now in
     let i = c.loop-row.row-index in (
-      c.push-reserved.ensures.items ∙ ap (λ l. l ++ (c.row-item.result ∷ [])) inv.0 ∙ ap (λ x. take i rs ++ (x ∷ [])) c.row-item.is ∙ sym (take_more rs i _ c.loop-row-test.true),
+      c.push_reserved.ensures.items ∙ ap (λ l. l ++ (c.row-item.result ∷ [])) inv.0 ∙ ap (λ x. take i rs ++ (x ∷ [])) c.row-item.is ∙ sym (take_more rs i _ c.loop-row-test.true),
       search rules,
       search rules,
     )

@@ -2,6 +2,6 @@ use Rattle.std.proofs.Common.{arith}
 use Rattle.session.proofs.Restarts.{nothing_reduced}
 use Rattle.session.proofs.restarting.new_search.Goals as goal
 
-pub invariant-of-new : goal.invariant-of-new
-invariant-of-new c =
-    (omega arith, (∣ nothing_reduced 0 _ _ c.in-ok-clauses.ensures.items c.in-ok-rows.ensures.items ∣₁, tt))
+pub invariant_of-new : goal.invariant_of-new
+invariant_of-new c =
+    record { few = omega arith; reduced = ∣ nothing_reduced 0 _ _ c.in_ok-clauses.ensures.items c.in_ok-rows.ensures.items ∣₁ }

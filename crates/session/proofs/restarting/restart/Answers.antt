@@ -10,33 +10,33 @@ use Rattle.session.specs.Phases.{Over}
 use Rattle.session.proofs.Restarts.{system_made, system_reduced}
 use Rattle.session.proofs.restarting.restart.Goals as goal
 
-pub fill-rows-requires : goal.fill-rows-requires
-fill-rows-requires c =
+pub fill_rows-requires : goal.fill_rows-requires
+fill_rows-requires c =
     let s = c.args.rules.now in
     let few = rows_few s.switches (standing_rules s) (map row_constraint c.args.rows.now) c.requires.reduced in
-    let same = c.into-system-system.ensures ∙ ap (λ x. x.system) c.replace-old.ensures.value in
+    let same = c.into_system-system.ensures ∙ ap (λ x. x.system) c.replace-old.ensures.value in
     let room = ap (λ x. vec_capacity x.rows) same in
     omega (arith, few, length-map c.args.rows.now row_constraint, s.narrow, c.requires.rows, room)
 
-pub invariant-of-system : goal.invariant-of-system
-invariant-of-system c =
+pub invariant_of-system : goal.invariant_of-system
+invariant_of-system c =
     let s = c.args.rules.now in
-    let cs = c.fill-clauses.ensures.clauses ∙ ap (λ l. map clause (clauses_of (map constraint l))) c.as-slice.ensures.value in
-    let rows_same = c.requires.reduced ∙ ap (λ l. Some (map row_constraint l)) (sym c.fill-rows.ensures.rows) in
+    let cs = c.fill_clauses.ensures.clauses ∙ ap (λ l. map clause (clauses_of (map constraint l))) c.as_slice.ensures.value in
+    let rows_same = c.requires.reduced ∙ ap (λ l. Some (map row_constraint l)) (sym c.fill_rows.ensures.rows) in
     let made = system_made s.switches (standing_rules s) _ _ rows_same cs in
-    (s.narrow, (∣ system_reduced s.switches (standing_rules s) _ s.sound made ∣₁, tt))
+    record { few = s.narrow; reduced = ∣ system_reduced s.switches (standing_rules s) _ s.sound made ∣₁ }
 
 pub returns : goal.returns
 returns c =
     let s = c.args.rules.now in
-    let cs = c.fill-clauses.ensures.clauses ∙ ap (λ l. map clause (clauses_of (map constraint l))) c.as-slice.ensures.value in
-    let rows_same = c.requires.reduced ∙ ap (λ l. Some (map row_constraint l)) (sym c.fill-rows.ensures.rows) in
+    let cs = c.fill_clauses.ensures.clauses ∙ ap (λ l. map clause (clauses_of (map constraint l))) c.as_slice.ensures.value in
+    let rows_same = c.requires.reduced ∙ ap (λ l. Some (map row_constraint l)) (sym c.fill_rows.ensures.rows) in
     let made = system_made s.switches (standing_rules s) _ _ rows_same cs in
-    let same = c.into-system-system.ensures ∙ ap (λ x. x.system) c.replace-old.ensures.value in
+    let same = c.into_system-system.ensures ∙ ap (λ x. x.system) c.replace-old.ensures.value in
     let held = c.new.ensures.same in
     record {
       over = subst (Over s.switches (standing_rules s)) (sym held) (record { size = refl; same = made });
       course = c.new.ensures.course ∙ ap (begin s.switches) (sym made);
-      clauses = omega (arith, c.requires.clauses, ap (λ x. vec_capacity x.clauses) same, c.fill-clauses.ensures.room, ap (λ x. vec_capacity x.clauses) held);
-      rows = omega (arith, c.requires.rows, ap (λ x. vec_capacity x.rows) same, c.fill-rows.ensures.room, ap (λ x. vec_capacity x.rows) held);
+      clauses = omega (arith, c.requires.clauses, ap (λ x. vec_capacity x.clauses) same, c.fill_clauses.ensures.room, ap (λ x. vec_capacity x.clauses) held);
+      rows = omega (arith, c.requires.rows, ap (λ x. vec_capacity x.rows) same, c.fill_rows.ensures.room, ap (λ x. vec_capacity x.rows) held);
     }

@@ -6,8 +6,8 @@ use Rattle.session.proofs.writing.write_setting.Goals as goal
 pub loop-i-preserved : goal.loop-i-preserved
 loop-i-preserved c =
     let i = c.loop-i.i in
-    ap (λ l. set l i c.byte-of.result) c.loop-i.invariant
-    ∙ ap (λ b. set (map bit (take i c.args.setting.now.values) ++ drop i c.args.out.now) i b) c.byte-of.ensures
+    ap (λ l. set l i c.byte_of.result) c.loop-i.invariant
+    ∙ ap (λ b. set (map bit (take i c.args.setting.now.values) ++ drop i c.args.out.now) i b) c.byte_of.ensures
     ∙ overwritten_more c.args.setting.now.values c.args.out.now i (omega (arith, c.requires.width)) (omega (arith, c.requires.room))
 
 pub returns : goal.returns

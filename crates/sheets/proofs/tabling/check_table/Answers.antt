@@ -1,28 +1,28 @@
-use Rattle.std.proofs.Common.{◌≡◌, [], ◌∷◌, sym, ap, ◌∙◌, arith}
+use Rattle.std.proofs.Common.{[], ◌∷◌, sym, ap, ◌∙◌, arith}
 use Rattle.std.proofs.lemmas.Result.{err_from_is_err_and}
 use Rattle.rules.specs.Views.{constraint}
 use Rattle.sheets.specs.Meaning.{check_of}
 use Rattle.sheets.proofs.Tabled.{checked_only, checked_prefixed, passes, stops, past_all, size_refused, size_fits, check_over}
 use Rattle.sheets.proofs.tabling.check_table.Goals as goal
 
-pub returns-in-err-check-size : goal.returns-in-err-check-size
-returns-in-err-check-size c =
-    let p = err_from_is_err_and c.from-residual.result c.from-residual.ensures.1 in
-    rw (p.1, p.2) (sym (ap check_of (size_refused c.args.n c.args.rules.now _ c.in-err-check-size.ensures)))
+pub returns-in_err-check_size : goal.returns-in_err-check_size
+returns-in_err-check_size c =
+    let p = err_from_is_err_and c.from_residual.result c.from_residual.ensures.1 in
+    rw (p.1, p.2) (sym (ap check_of (size_refused c.args.n c.args.rules.now _ c.in_err-check_size.ensures)))
 
-pub returns-in-err-check-rule : goal.returns-in-err-check-rule
-returns-in-err-check-rule c =
-    let p = err_from_is_err_and c.from-residual-in-err-check-rule.result c.from-residual-in-err-check-rule.ensures.1 in
-    let here = stops c.args.n c.args.rules.now c.loop-i.i c.index-rules-i.result c.loop-i-test.true c.index-rules-i.is _ c.as-slice.ensures.value _ c.in-err-check-rule.ensures in
-    let whole = size_fits c.args.n c.args.rules.now _ c.in-ok-check-size.ensures in
+pub returns-in_err-check_rule : goal.returns-in_err-check_rule
+returns-in_err-check_rule c =
+    let p = err_from_is_err_and c.from_residual-in_err-check_rule.result c.from_residual-in_err-check_rule.ensures.1 in
+    let here = stops c.args.n c.args.rules.now c.loop-i.i c.index-rules-i.result c.loop-i-test.true c.index-rules-i.is _ c.as_slice.ensures.value _ c.in_err-check_rule.ensures in
+    let whole = size_fits c.args.n c.args.rules.now _ c.in_ok-check_size.ensures in
     rw (p.1, p.2) (sym (ap checked_only here) ∙ c.loop-i.invariant ∙ check_over c.args.n _ ∙ sym (ap check_of whole))
 
 pub loop-i-preserved : goal.loop-i-preserved
 loop-i-preserved c =
-    let here = passes c.args.n c.args.rules.now c.loop-i.i c.index-rules-i.result c.loop-i-test.true c.index-rules-i.is _ c.as-slice.ensures.value _ c.in-ok-check-rule.ensures in
-    sym (ap checked_only here ∙ checked_prefixed (constraint c.in-ok-check-rule.field-0 ∷ []) _) ∙ c.loop-i.invariant
+    let here = passes c.args.n c.args.rules.now c.loop-i.i c.index-rules-i.result c.loop-i-test.true c.index-rules-i.is _ c.as_slice.ensures.value _ c.in_ok-check_rule.ensures in
+    sym (ap checked_only here ∙ checked_prefixed (constraint c.in_ok-check_rule.field-0 ∷ []) _) ∙ c.loop-i.invariant
 
 pub returns : goal.returns
 returns c =
-    let whole = size_fits c.args.n c.args.rules.now _ c.in-ok-check-size.ensures in
+    let whole = size_fits c.args.n c.args.rules.now _ c.in_ok-check_size.ensures in
     sym (ap checked_only (past_all c.args.n c.args.rules.now c.loop-i.i (omega arith))) ∙ c.loop-i.invariant ∙ check_over c.args.n _ ∙ sym (ap check_of whole)

@@ -13,5 +13,5 @@ with_parts f k word e w =
 pub returns : goal.returns
 returns c =
     IfOk-weaker c.format.result _ (λ s. string_bytes s ≡ refused_line c.args.fault)
-    (λ s e. e ∙ with_parts c.args.fault c.number-number.result c.layer-word-layer.result.now c.number-number.ensures c.layer-word-layer.ensures)
+    (λ s e. e ∙ with_parts c.args.fault c.number-number.result c.layer_word-layer.result.now c.number-number.ensures c.layer_word-layer.ensures)
     c.format.ensures.ok

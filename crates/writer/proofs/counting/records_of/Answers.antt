@@ -10,15 +10,15 @@ use Rattle.writer.proofs.counting.records_of.Goals as goal
 
 pub returns-then-width-gt5 : goal.returns-then-width-gt5
 returns-then-width-gt5 g c =
-    let told : Some (Parity c.in-Some-Parity.-side) ≡ told_kind (g.S.Sheet.meaning c.args.sheet.now) c.args.i = search rules in
-    let long : length (entries_in (slice_get (g.S.Sheet.meaning c.args.sheet.now).rules c.args.i)) ≡ c.entries-of-width.result.width =
-    ap length (sym c.entries-of-width.ensures.same) ∙ length-take-le _ c.entries-of-width.result.literals (search rules) in
-    parity_wide (g.S.Sheet.meaning c.args.sheet.now) (g.met.S.Sheet.lawful c.args.sheet.now) c.args.i c.in-Some-Parity.-side c.entries-of-width.result.width long told c.if-width-gt5.true
+    let told : Some (Parity c.in-Some-Parity._side) ≡ told_kind (g.S.Sheet.meaning c.args.sheet.now) c.args.i = search rules in
+    let long : length (entries_in (slice_get (g.S.Sheet.meaning c.args.sheet.now).rules c.args.i)) ≡ c.entries_of-width.result.width =
+    ap length (sym c.entries_of-width.ensures.same) ∙ length-take-le _ c.entries_of-width.result.literals (search rules) in
+    parity_wide (g.S.Sheet.meaning c.args.sheet.now) (g.met.S.Sheet.lawful c.args.sheet.now) c.args.i c.in-Some-Parity._side c.entries_of-width.result.width long told c.if-width-gt5.true
 
 pub returns-else-width-gt5 : goal.returns-else-width-gt5
 returns-else-width-gt5 g c =
-    let told : Some (Parity c.in-Some-Parity.-side) ≡ told_kind (g.S.Sheet.meaning c.args.sheet.now) c.args.i = search rules in
-    let long : length (entries_in (slice_get (g.S.Sheet.meaning c.args.sheet.now).rules c.args.i)) ≡ c.entries-of-width.result.width =
-    ap length (sym c.entries-of-width.ensures.same) ∙ length-take-le _ c.entries-of-width.result.literals (search rules) in
-    let here = parity_counted (g.S.Sheet.meaning c.args.sheet.now) (g.met.S.Sheet.lawful c.args.sheet.now) c.args.i c.in-Some-Parity.-side c.entries-of-width.result.width long told c.if-width-gt5.false in
-    subst (λ n. Counted (slice_get (g.S.Sheet.meaning c.args.sheet.now).rules c.args.i) (Some (n / 2))) (sym (one_shl c.entries-of-width.result.width 64 (omega arith))) here
+    let told : Some (Parity c.in-Some-Parity._side) ≡ told_kind (g.S.Sheet.meaning c.args.sheet.now) c.args.i = search rules in
+    let long : length (entries_in (slice_get (g.S.Sheet.meaning c.args.sheet.now).rules c.args.i)) ≡ c.entries_of-width.result.width =
+    ap length (sym c.entries_of-width.ensures.same) ∙ length-take-le _ c.entries_of-width.result.literals (search rules) in
+    let here = parity_counted (g.S.Sheet.meaning c.args.sheet.now) (g.met.S.Sheet.lawful c.args.sheet.now) c.args.i c.in-Some-Parity._side c.entries_of-width.result.width long told c.if-width-gt5.false in
+    subst (λ n. Counted (slice_get (g.S.Sheet.meaning c.args.sheet.now).rules c.args.i) (Some (n / 2))) (sym (one_shl c.entries_of-width.result.width 64 (omega arith))) here

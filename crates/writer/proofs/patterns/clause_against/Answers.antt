@@ -6,7 +6,7 @@ pub loop-j-preserved : goal.loop-j-preserved
 loop-j-preserved c = (
   simp length-set c.loop-j.invariant.0,
   against_more c.args.switches.now c.args.pattern c.loop-j.clause c.loop-j.j (record { switch = 0; on = false }) _ c.loop-j-test.true (omega (arith, c.requires, c.loop-j.invariant.0))
-      (ap (λ b. record { switch = (get_or c.args.switches.now c.loop-j.j (record { switch = 0; on = false })).switch; on = not b }) c.is-on.ensures)
+      (ap (λ b. record { switch = (get_or c.args.switches.now c.loop-j.j (record { switch = 0; on = false })).switch; on = not b }) c.is_on.ensures)
       c.loop-j.invariant.1,
 )
 

@@ -6,7 +6,7 @@ use Rattle.writer.proofs.patterns.is_odd.Goals as goal
 pub loop-j-preserved : goal.loop-j-preserved
 loop-j-preserved c =
     odd_more c.args.width c.args.pattern c.loop-j.j c.loop-j.odd c.loop-j.invariant c.differ-odd.result c.loop-j-test.true
-    (c.differ-odd.ensures ∙ ap (xor c.loop-j.odd) c.is-on.ensures)
+    (c.differ-odd.ensures ∙ ap (xor c.loop-j.odd) c.is_on.ensures)
 
 pub returns : goal.returns
 returns c = odd_all c.args.width c.args.pattern c.loop-j.j c.loop-j.odd c.loop-j.invariant c.loop-j-test.false

@@ -6,5 +6,5 @@ use Rattle.files.proofs.first_year.FirstYearGeneration.read_rule.Goals as goal
 
 pub returns-in-67 : goal.returns-in-67
 returns-in-67 c =
-    ap Some (c.read-clause.ensures ∙ ap (first_clause c.args.n) (take_rest c.args.bytes.now 2))
+    ap Some (c.read_clause.ensures ∙ ap (first_clause c.args.n) (take_rest c.args.bytes.now 2))
     ∙ sym (clause_here _ c.args.bytes.now (omega (arith, ltb-false)) (omega arith) (omega arith))

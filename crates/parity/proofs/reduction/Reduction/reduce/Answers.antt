@@ -13,39 +13,39 @@ pub eliminate-requires : goal.eliminate-requires
 eliminate-requires c =
     let s = c.args.standing.now in
     record {
-      few = omega (arith, s.few, c.as-slice.ensures.len);
-      rules = ap (λ l. every (lawful 256) (map constraint l)) c.as-slice.ensures.value ∙ lawful_wider s.switches 256 s.narrow (standing_rules s) s.sound;
+      few = omega (arith, s.few, c.as_slice.ensures.len);
+      rules = ap (λ l. every (lawful 256) (map constraint l)) c.as_slice.ensures.value ∙ lawful_wider s.switches 256 s.narrow (standing_rules s) s.sound;
     }
 
 pub returns-then-self : goal.returns-then-self
 returns-then-self c =
     let s = c.args.standing.now in
     let e = c.eliminate.new.elimination in
-    let done = c.eliminate.ensures ∙ ap (λ l. reduce (parities 256 (map constraint l))) c.as-slice.ensures.value in
+    let done = c.eliminate.ensures ∙ ap (λ l. reduce (parities 256 (map constraint l))) c.as_slice.ensures.value in
     let told = told_rows s.switches s.narrow (standing_rules s) s.sound e.contradiction (vec_items e.rows) _ done (λ f. absurd (true≢false (sym c.if-self.true ∙ f))) in
     record { switches = refl; rows = told; right = told_right s.switches s.narrow (standing_rules s) s.sound _ told }
 
-pub write-rows-requires : goal.write-rows-requires
-write-rows-requires c =
+pub write_rows-requires : goal.write_rows-requires
+write_rows-requires c =
     let s = c.args.standing.now in
     let e = c.eliminate.new.elimination in
-    let done = c.eliminate.ensures ∙ ap (λ l. reduce (parities 256 (map constraint l))) c.as-slice.ensures.value in
+    let done = c.eliminate.ensures ∙ ap (λ l. reduce (parities 256 (map constraint l))) c.as_slice.ensures.value in
     let few = told_few s.switches s.narrow (standing_rules s) s.sound e.contradiction (vec_items e.rows) done c.if-self.false in
-    record { room = search rules; none = search rules; few = omega (arith, few, s.narrow, c.as-slice-2.ensures.len, e.rows.ok.0) }
+    record { room = search rules; none = search rules; few = omega (arith, few, s.narrow, c.as_slice-2.ensures.len, e.rows.ok.0) }
 
 pub returns : goal.returns
 returns c =
     let s = c.args.standing.now in
     let e = c.eliminate.new.elimination in
-    let done = c.eliminate.ensures ∙ ap (λ l. reduce (parities 256 (map constraint l))) c.as-slice.ensures.value in
-    let written = c.write-rows.ensures.rows ∙ ap (λ l. map as_rule (map solved_row l)) c.as-slice-2.ensures.value in
-    let told = told_rows s.switches s.narrow (standing_rules s) s.sound e.contradiction (vec_items e.rows) (map row_constraint (vec_items c.write-rows.new.rows)) done (λ _. written) in
+    let done = c.eliminate.ensures ∙ ap (λ l. reduce (parities 256 (map constraint l))) c.as_slice.ensures.value in
+    let written = c.write_rows.ensures.rows ∙ ap (λ l. map as_rule (map solved_row l)) c.as_slice-2.ensures.value in
+    let told = told_rows s.switches s.narrow (standing_rules s) s.sound e.contradiction (vec_items e.rows) (map row_constraint (vec_items c.write_rows.new.rows)) done (λ _. written) in
     record { switches = refl; rows = told; right = told_right s.switches s.narrow (standing_rules s) s.sound _ told }
 
-pub invariant-of-self-3 : goal.invariant-of-self-3
-invariant-of-self-3 c =
+pub invariant_of-self-3 : goal.invariant_of-self-3
+invariant_of-self-3 c =
     let s = c.args.standing.now in
     let e = c.eliminate.new.elimination in
-    let done = c.eliminate.ensures ∙ ap (λ l. reduce (parities 256 (map constraint l))) c.as-slice.ensures.value in
+    let done = c.eliminate.ensures ∙ ap (λ l. reduce (parities 256 (map constraint l))) c.as_slice.ensures.value in
     let few = told_few s.switches s.narrow (standing_rules s) s.sound e.contradiction (vec_items e.rows) done c.if-self.false in
-    (search rules, (omega (arith, few, c.write-rows.ensures.len, c.as-slice-2.ensures.len, e.rows.ok.0), tt))
+    record { room = search rules; fewer = omega (arith, few, c.write_rows.ensures.len, c.as_slice-2.ensures.len, e.rows.ok.0) }

@@ -1,4 +1,4 @@
 use Rattle.search.proofs.search.Search.new.Goals as goal
 
-pub invariant-of-result : goal.invariant-of-result
-invariant-of-result c = (∣ c.begin-state.ensures.stands ∣₁, tt)
+pub invariant_of-result : goal.invariant_of-result
+invariant_of-result c = record { stands = ∣ c.begin-state.ensures.stands ∣₁ }

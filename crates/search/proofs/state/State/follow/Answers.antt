@@ -5,14 +5,14 @@ use Rattle.search.proofs.Reduction.{over_of}
 use Rattle.search.proofs.Standings.{reached_room, reached_within, follow_stands}
 use Rattle.search.proofs.state.State.follow.Goals as goal
 
-pub overflow-cast-level : goal.overflow-cast-level
-overflow-cast-level c =
+pub overflow_cast-level : goal.overflow_cast-level
+overflow_cast-level c =
     let few = c.args.system.now.few in
     let room = reached_room c.args.system.now.switches (rules_of c.args.system.now) c.args.literal c.args.self.now.tries.table c.args.at c.requires.reached in
     search rules
 
-pub overflow-add-level : goal.overflow-add-level
-overflow-add-level c =
+pub overflow_add-level : goal.overflow_add-level
+overflow_add-level c =
     let few = c.args.system.now.few in
     let room = reached_room c.args.system.now.switches (rules_of c.args.system.now) c.args.literal c.args.self.now.tries.table c.args.at c.requires.reached in
     search rules

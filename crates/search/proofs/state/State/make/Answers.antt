@@ -8,8 +8,8 @@ use Rattle.search.specs.States.{Makes}
 use Rattle.search.proofs.Standings.{made_room}
 use Rattle.search.proofs.state.State.make.Goals as goal
 
-pub turn-on-requires : goal.turn-on-requires
-turn-on-requires c =
+pub turn_on-requires : goal.turn_on-requires
+turn_on-requires c =
     let m : Makes (Turn c.in-Turn.at) c.args.system.now.switches (rules_of c.args.system.now) c.args.self.now =
     subst (λ (d : Due). Makes d c.args.system.now.switches (rules_of c.args.system.now) c.args.self.now) c.in-Turn.is c.requires.makes in
     record {

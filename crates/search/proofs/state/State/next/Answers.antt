@@ -4,8 +4,8 @@ use Rattle.search.proofs.Reduction.{reduced_of}
 use Rattle.search.proofs.Standings.{reached_count, next_turn, next_nothing, next_add, next_found}
 use Rattle.search.proofs.state.State.next.Goals as goal
 
-pub latest-off-requires : goal.latest-off-requires
-latest-off-requires c =
+pub latest_off-requires : goal.latest_off-requires
+latest_off-requires c =
     let few = c.args.system.now.few in
     let count = reached_count c.args.system.now.switches (rules_of c.args.system.now) c.args.self.now.tries.table c.args.self.now.tries.count c.requires.reached in
     omega arith
@@ -16,10 +16,10 @@ returns-in-Some c = next_turn c.args.system.now.switches (rules_of c.args.system
 pub returns-in-None : goal.returns-in-None
 returns-in-None c = next_nothing c.args.system.now.switches (rules_of c.args.system.now) c.args.self.now c.requires c.if-self.true c.in-None.ensures
 
-pub returns-in-Some-lowest-unset : goal.returns-in-Some-lowest-unset
-returns-in-Some-lowest-unset c =
-    next_add c.args.system.now.switches (rules_of c.args.system.now) c.args.self.now c.requires c.if-self.false (reduced_of c.args.system.now) c.in-Some-lowest-unset.switch c.in-Some-lowest-unset.ensures
+pub returns-in-Some-lowest_unset : goal.returns-in-Some-lowest_unset
+returns-in-Some-lowest_unset c =
+    next_add c.args.system.now.switches (rules_of c.args.system.now) c.args.self.now c.requires c.if-self.false (reduced_of c.args.system.now) c.in-Some-lowest_unset.switch c.in-Some-lowest_unset.ensures
 
-pub returns-in-None-lowest-unset : goal.returns-in-None-lowest-unset
-returns-in-None-lowest-unset c =
-    next_found c.args.system.now.switches (rules_of c.args.system.now) c.args.self.now c.requires c.if-self.false (reduced_of c.args.system.now) c.in-None-lowest-unset.ensures
+pub returns-in-None-lowest_unset : goal.returns-in-None-lowest_unset
+returns-in-None-lowest_unset c =
+    next_found c.args.system.now.switches (rules_of c.args.system.now) c.args.self.now c.requires c.if-self.false (reduced_of c.args.system.now) c.in-None-lowest_unset.ensures

@@ -7,13 +7,13 @@ use Rattle.session.proofs.Settles.{fresh_went, found_again, answers_settle}
 use Rattle.session.proofs.Copied.{found_some}
 use Rattle.session.proofs.session.Session.answer.Goals as goal
 
-pub go-on-requires : goal.go-on-requires
-go-on-requires c =
+pub go_on-requires : goal.go_on-requires
+go_on-requires c =
     let s = c.args.self.now in
     underway_over s.rules.switches (standing_rules s.rules) s.standing s.search s.searched (search rules)
 
-pub setting-of-requires : goal.setting-of-requires
-setting-of-requires c =
+pub setting_of-requires : goal.setting_of-requires
+setting_of-requires c =
     let s = c.args.self.now in
     (found_over s.rules.switches (standing_rules s.rules) s.standing s.search s.searched (search rules)).size
 

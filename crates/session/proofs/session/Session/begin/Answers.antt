@@ -23,4 +23,4 @@ returns-in-None c =
 pub returns-in-Some : goal.returns-in-Some
 returns-in-Some c =
     let s = c.args.self.now in
-    went_same s.rules.switches s.count (standing_rules s.rules) s.standing (course_of s.search) s.standing (course_of c.restart.new.search) _ _ c.args.budget _ _ c.restart.ensures.course c.go-on.ensures
+    went_same s.rules.switches s.count (standing_rules s.rules) s.standing (course_of s.search) s.standing (course_of c.restart.new.search) _ _ c.args.budget _ _ c.restart.ensures.course c.go_on.ensures

@@ -45,8 +45,8 @@ returns-in-None c =
     let happens = subst (λ f. Happens s (copied old (Err f) old) s) (sym c.refusal-in-None.ensures) (copy_nothing s old (le-ltb _ _ (omega (arith, c.from.ensures))) none) in
     record { happens = happens; lawful = lawfully _ _ _ happens }
 
-pub setting-of-requires : goal.setting-of-requires
-setting-of-requires c =
+pub setting_of-requires : goal.setting_of-requires
+setting_of-requires c =
     let here = c.args.self.now in
     (found_over here.rules.switches (standing_rules here.rules) here.standing here.search here.searched (search rules)).size
 
@@ -61,6 +61,6 @@ returns-in-Found c =
     let some = found_some (course_of here.search) stands.ends in
     let is = ap (λ p. setting_of (standing_of p (course_of here.search))) c.in-Found.is ∙ ap setting_at some.1 in
     let width = c.setting_of.ensures.width in
-    let new = c.write-setting.ensures ∙ ap (λ vs. map bit vs ++ drop c.setting_of.result.width old) (c.setting_of.ensures.found some.0 some.1) ∙ ap (λ k. map bit some.0 ++ drop k old) width in
+    let new = c.write_setting.ensures ∙ ap (λ vs. map bit vs ++ drop c.setting_of.result.width old) (c.setting_of.ensures.found some.0 some.1) ∙ ap (λ k. map bit some.0 ++ drop k old) width in
     let happens = copy_found s old some.0 _ (le-ltb _ _ (omega (arith, c.from.ensures))) is new in
     record { happens = happens; lawful = lawfully _ _ _ happens }
