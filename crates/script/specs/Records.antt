@@ -1,5 +1,5 @@
 -- What each reader of a part of a script gives.
-use Rattle.std.specs.Prelude.{◌≡◌, ℕ, ◌≤◌, List, map, length, Some, None, Ok, Err, vec_items, Option, Result, Vec}
+use Rattle.std.specs.Prelude.{◌≡◌, List, map, Some, None, Ok, Err, vec_items, Option, Result, Vec}
 use Rattle.std.specs.declared.alloc.Global.{Global}
 use Rattle.session.specs.declared.call.Call.{Call}
 use Rattle.script.specs.declared.errors.ScriptError.{ScriptError}

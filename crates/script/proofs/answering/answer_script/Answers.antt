@@ -1,4 +1,4 @@
-use Rattle.std.proofs.Common.{◌≡◌, ◌+◌, vec_items, string_bytes, ap, ◌∙◌, arith}
+use Rattle.std.proofs.Common.{◌+◌, vec_items, string_bytes, arith}
 use Rattle.std.proofs.lemmas.Result.{IfOk-weaker}
 use Rattle.script.specs.Scripts.{script_in, Answered}
 use Rattle.script.proofs.Whole.{unread, refused, answered}

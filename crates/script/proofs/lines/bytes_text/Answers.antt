@@ -1,4 +1,4 @@
-use Rattle.std.proofs.Common.{◌≡◌, get_or, string_bytes, refl, ap, ◌∙◌, arith}
+use Rattle.std.proofs.Common.{get_or, string_bytes, refl, ap, ◌∙◌, arith}
 use Rattle.std.specs.List.{flat_map}
 use Rattle.std.proofs.lemmas.List.{take_all}
 use Rattle.script.specs.Lines.{byte_text}

@@ -1,4 +1,4 @@
-use Rattle.std.proofs.Common.{map, vec_items, sym, ap, ◌∙◌, arith, rules}
+use Rattle.std.proofs.Common.{map, vec_items, sym, ap, ◌∙◌, rules}
 use Rattle.std.proofs.lemmas.List.{take_rest, map_push}
 use Rattle.std.proofs.lemmas.Result.{err_from_is_err_and}
 use Rattle.script.specs.Asked.{asked}
