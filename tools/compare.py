@@ -1,11 +1,10 @@
 #!/usr/bin/env python3
 """Compares the proved programs with bench/plain.rs, an implementation in plain Rust that shares no code with them.
 
-    rt check sheetreport sessionscript
     python3 tools/compare.py [--cases N] [--seed N] [--workers N]
 
-Makes sheet files and scripts of calls at random, runs sheetreport and sessionscript of target/bin and the plain
-program on each, and compares what they print byte by byte. A case depends on --seed and on its own number alone. Prints
+Makes sheet files and scripts of calls at random, runs sheetreport and sessionscript, which are proved and built where
+they are not there yet, and the plain program on each, and compares what they print byte by byte. A case depends on --seed and on its own number alone. Prints
 the number of cases and of differences by kind; each case that differs is kept in target/compare/. Ends with status 1
 where any differs.
 """
@@ -20,8 +19,8 @@ import sys
 import tempfile
 
 from filecases import clause, end, first, head, parity, slots, third, word
+from programs import ROOT, proved
 
-ROOT = os.path.dirname(os.path.dirname(os.path.abspath(__file__)))
 KEPT = os.path.join(ROOT, "target", "compare")
 MOST_INPUT = 36_873
 LONGEST_SECONDS = 60
@@ -471,26 +470,26 @@ def run(command, data):
 class Programs:
     def __init__(self, plain):
         self.plain = plain
-        self.report = os.path.join(ROOT, "target", "bin", "sheetreport")
-        self.script = os.path.join(ROOT, "target", "bin", "sessionscript")
+        self.report = proved("sheetreport")
+        self.script = proved("sessionscript")
 
     def compare(self, seed, index):
         """The kind of the case, and None or the input with the two outputs."""
         kind, is_script, data = case(seed, index)
-        proved = run([self.script] if is_script else [self.report], data)
+        ours = run([self.script] if is_script else [self.report], data)
         plain = run([self.plain, "--script"] if is_script else [self.plain], data)
-        same = proved == plain and proved[0] == 0
-        return kind, None if same else (data, proved, plain), proved[1]
+        same = ours == plain and ours[0] == 0
+        return kind, None if same else (data, ours, plain), ours[1]
 
 
 def keep(seed, index, kind, found):
     os.makedirs(KEPT, exist_ok=True)
     stem = os.path.join(KEPT, f"{seed}-{index}-{kind}")
-    data, proved, plain = found
-    for suffix, content in (("in", data), ("proved", proved[1]), ("plain", plain[1])):
+    data, ours, plain = found
+    for suffix, content in (("in", data), ("proved", ours[1]), ("plain", plain[1])):
         with open(f"{stem}.{suffix}", "wb") as f:
             f.write(content)
-    print(f"differs: {stem}.in (status {proved[0]} and {plain[0]})")
+    print(f"differs: {stem}.in (status {ours[0]} and {plain[0]})")
 
 
 def build(folder):
@@ -522,9 +521,6 @@ def main():
     options = parser.parse_args()
     with tempfile.TemporaryDirectory() as folder:
         programs = Programs(build(folder))
-        for program in (programs.report, programs.script):
-            if not os.access(program, os.X_OK):
-                sys.exit(f"{program} is not built: rt check sheetreport sessionscript")
         cases, differing, lines = compare_all(programs, options)
     print(f"{'kind':24}{'cases':>8}{'differ':>8}")
     for maker in FILES + SCRIPTS:

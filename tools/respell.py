@@ -14,9 +14,10 @@ import sys
 
 TOKEN = re.compile(r"[^\s(){}\[\]⌜⌝λ.,;:@\"`]+")
 DECLARED = re.compile(r"^\s*(?:(?:abbrev|unfoldable|pub|record|data|ruleset|opaque)\s+)*(" + TOKEN.pattern + r"(?:\s+" + TOKEN.pattern + r")*?)\s*(?:[({][^=]*)?(?::(?!:)|\bwhere\b)(.*)$")
+ALIAS = re.compile(r"\bas\s+(" + TOKEN.pattern + r")\s*(?:[,}]|$)", re.M)
 DERIVED = re.compile(r"deriving\s+\w+\s+as\s+(" + TOKEN.pattern + ")")
 # names whose words are run together, or whose new spelling would be that of another name
-OTHERWISE = {"sideOf": "side_numbered", "constraint-isSet": "constraint_is_set"}
+OTHERWISE = {"constraint-isSet": "constraint_is_set", "rows_of_lem": "rows_of", "end_None": "end_none", "End-row": "end_row"}
 OLD_WORDS = {"getD": "get_or", "isSet": "is_set", "isSome": "is_some"}
 
 
@@ -31,9 +32,9 @@ def spelled(name):
     if name in OTHERWISE:
         return OTHERWISE[name]
     name = name.replace("′", "'")
-    if "-" not in name:
+    if "-" not in name and not re.fullmatch(r"[A-Z][A-Za-z0-9]*(?:_[A-Za-z0-9]+)+", name):
         return name
-    words = [OLD_WORDS.get(w, w) for w in name.split("-")]
+    words = [OLD_WORDS.get(w, w) for w in re.split("[-_]" if name[0].isupper() else "-", name)]
     if not all(re.fullmatch(r"[A-Za-z_0-9']+", w) for w in words):
         return name
     if name[0].isupper():
@@ -47,7 +48,7 @@ def declared(paths):
         for line in open(path, encoding="utf-8"):
             if line.lstrip().startswith("--"):
                 continue
-            for name in DERIVED.findall(line):
+            for name in DERIVED.findall(line) + (ALIAS.findall(line) if re.match(r"\s*(?:ghost\s+|pub\s+)?use\b", line) else []):
                 names[name] = spelled(name)
             m = DECLARED.match(line)
             if not m or re.search(r"\bgoal\.", m.group(2)):
@@ -60,11 +61,15 @@ def declared(paths):
     return {old: new for old, new in names.items() if old != new and old not in made}
 
 
+def aliases(paths):
+    return {name for path in paths for name in ALIAS.findall(open(path, encoding="utf-8").read())}
+
+
 def borrowed(text):
     """What a file takes from a library, under the name that it has there: such a name is not this repository's."""
     found = set()
     for items in re.findall(r"\buse\s+(?:Rattle\.std|borrow|logic|Prim)\b[^{;\n]*\{([^}]*)\}", text):
-        found |= {i.split(" as ")[-1].strip() for i in items.split(",")}
+        found |= {i.strip() for i in items.split(",") if " as " not in i}
     return found
 
 
@@ -101,8 +106,8 @@ def clauses_turned(text, names):
 
 def main():
     paths = files()
-    names = declared(paths)
     sources = sorted(glob.glob("crates/*/src/**/*.rt", recursive=True))
+    names = declared(paths) | {old: new for old, new in declared(sources).items() if old in aliases(sources)}
     texts = {p: open(p, encoding="utf-8").read() for p in paths + sources}
     new_names = {}
     for old, new in names.items():

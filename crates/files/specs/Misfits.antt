@@ -1,4 +1,4 @@
--- What is wrong with a rule is wrong at one of its entries.
+-- Lemmas for the laws of the formats: what is wrong with a rule is wrong at one of its entries.
 use Rattle.std.specs.Prelude.{◌≡◌, ℕ, zero, suc, ◌<◌, ◌≤◌, Bool, true, false, not, List, length, ℤ, pos, Some, None, Err, Option, slice_index_or, refl}
 use Rattle.std.proofs.Common.{ap, ◌∙◌, arith}
 use Rattle.std.specs.Option.{option_or}

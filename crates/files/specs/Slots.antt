@@ -1,4 +1,4 @@
--- The slots of a first-year clause.
+-- Lemmas for the law of the first-year format: the slots of a clause.
 use Rattle.std.specs.Prelude.{◌≡◌, ℕ, suc, ◌+◌, ◌<◌, ◌≤◌, Bool, true, false, cond, List, [], ◌∷◌, ◌++◌, length, take, drop, ℤ, pos, Some, None, Option, Result, slice_index, slice_index_or, refl}
 use Rattle.std.proofs.Common.{sym, ap, ◌∙◌, arith, length-drop}
 use Rattle.std.proofs.lemmas.List.{append-nil, append_assoc, take_more, at_drop_more, at_drop_all}

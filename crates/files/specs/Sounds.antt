@@ -1,4 +1,4 @@
--- Rule records that lie within their bytes and are lawful.
+-- Lemmas for the laws of the formats: rule records that lie within their bytes and are lawful.
 use Rattle.std.specs.Prelude.{◌≡◌, ℕ, ◌+◌, ◌*◌, ◌≤◌, Bool, true, false, List, length, ℤ, Ok, Err, Result, refl}
 use Rattle.std.proofs.Common.{arith}
 use Rattle.rules.specs.declared.kinds.Kind.{Kind}

@@ -6,7 +6,7 @@ use Rattle.rules.specs.declared.kinds.Side.TheVariants.{Even}
 use Rattle.rules.specs.declared.kinds.Kind.{Kind}
 use Rattle.rules.specs.declared.kinds.Kind.TheVariants.{Clause, Parity}
 use Rattle.rules.specs.Lawful.{width_fits}
-use Rattle.rules.specs.Entries.{built, side_of}
+use Rattle.rules.specs.Entries.{built, side_numbered}
 use Rattle.files.specs.declared.records.Flaw.{Flaw}
 use Rattle.files.specs.Numbers.{entries_in}
 use Rattle.files.specs.Formats.{RuleRead, Format, flaw, clause_marked, parity_marked, demand, framed}
@@ -30,7 +30,7 @@ with_side (Some side) n w es = listed (Parity side) n 4 w es
 
 -- a parity rule of the width w: rest is what follows the width byte
 abbrev pub third_parity : ℕ → ℕ → List ℕ → Result RuleRead Flaw
-third_parity n w rest = sized (Parity Even) w (1 + 2 * w) rest (with_side (side_of (slice_index rest 0)) n w (drop 1 rest))
+third_parity n w rest = sized (Parity Even) w (1 + 2 * w) rest (with_side (side_numbered (slice_index rest 0)) n w (drop 1 rest))
 
 -- a record has a width byte; then it is what its kind makes of the width and of the bytes after it
 abbrev pub with_width : (ℕ → List ℕ → Result RuleRead Flaw) → List ℕ → Result RuleRead Flaw

@@ -1,7 +1,7 @@
 // Reduction of the parity rules that stand, and what it tells.
 ghost use Rattle.std.specs.Prelude.{◌≡◌, ◌≤◌, [], map, length, IfOk, Some, None, vec_len, vec_capacity, MatchOption};
 ghost use Rattle.rules.specs.Views.{row_constraint};
-ghost use Rattle.parity_theory.specs.Reducing.{as_rule, rows as rows_of_lem, left_free};
+ghost use Rattle.parity_theory.specs.Reducing.{as_rule, rows as rows_of, left_free};
 ghost use Rattle.parity.specs.Views.{solved_row};
 ghost use Rattle.parity.specs.Reductions.{rows_told, switches_told, standing_rules, Right};
 
@@ -31,7 +31,7 @@ fn write_rows(rows: &mut Vec<Row>, solved: &[Solved])
 impl Reduction {
     // Takes the memory for all reductions. What it tells at first is the reduction of no rules over no switches.
     pub fn new(heap: Global) -> Result<Reduction, AllocError>
-        ensures { IfOk result (λ d. (rows_told d ≡ rows_of_lem 0 []) × (switches_told d ≡ 0)) }
+        ensures { IfOk result (λ d. (rows_told d ≡ rows_of 0 []) × (switches_told d ≡ 0)) }
     {
         let solved = Vec::with_capacity(heap, 256)?;
         let rows = Vec::with_capacity(heap, 256)?;
@@ -48,7 +48,7 @@ impl Reduction {
     // Reduces the parity rules that stand, named and recovered, whatever was reduced before.
     pub fn reduce(&mut self, standing: &Standing)
         ensures switches { switches_told self.new ≡ standing.now.switches }
-        ensures rows { rows_told self.new ≡ rows_of_lem standing.now.switches (standing_rules standing.now) }
+        ensures rows { rows_told self.new ≡ rows_of standing.now.switches (standing_rules standing.now) }
         ensures right { Right standing.now.switches (standing_rules standing.now) (rows_told self.new) }
     {
         self.switches = standing.switches;

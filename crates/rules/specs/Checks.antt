@@ -13,7 +13,7 @@ use Rattle.rules.specs.declared.faults.Misfit.{Misfit}
 use Rattle.rules.specs.Constraints.{Constraint}
 use Rattle.rules.specs.Lawful.{width_fits}
 use Rattle.rules.specs.Faults.{fault}
-use Rattle.rules.specs.Entries.{side_of, built}
+use Rattle.rules.specs.Entries.{side_numbered, built}
 
 -- what is wrong with a rule, as a fault of a layer: the place is the index of the entry
 abbrev pub as_fault : Layer → ℕ → Misfit → Fault
@@ -32,7 +32,7 @@ parity_with None = None
 -- the kind that is meant, absent where the side is none
 abbrev pub kind_of : RawKind → Option Kind
 kind_of raw.Clause = Some Clause
-kind_of (raw.Parity number) = parity_with (side_of number)
+kind_of (raw.Parity number) = parity_with (side_numbered number)
 
 -- the width fits the kind, whatever the number for its side
 abbrev pub raw_width_fits : RawKind → ℕ → Bool

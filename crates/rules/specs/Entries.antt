@@ -58,5 +58,5 @@ abbrev pub built : Kind → ℕ → List ℤ → Result Constraint Misfit
 built k n es = verdict (rule_misfit k n es) (rule_of k es)
 
 -- side 0 is even, side 1 is odd
-abbrev pub side_of : ℕ → Option Side
-side_of b = cond (b == 0) (Some Even) (cond (b == 1) (Some Odd) None)
+abbrev pub side_numbered : ℕ → Option Side
+side_numbered b = cond (b == 0) (Some Even) (cond (b == 1) (Some Odd) None)

@@ -2,19 +2,19 @@
 use Rattle.std.specs.Prelude.{ℕ, List, take, Option}
 use Rattle.std.specs.List.{slice_get}
 use Rattle.rules.specs.declared.literals.Literal.{Literal}
-use Rattle.rules.specs.declared.clauses.Clause as code-clause
-use Rattle.rules.specs.declared.parities.Parity as code-parity
+use Rattle.rules.specs.declared.clauses.Clause as code_clause
+use Rattle.rules.specs.declared.parities.Parity as code_parity
 use Rattle.rules.specs.declared.rows.Row.{Row}
 use Rattle.rules.specs.declared.rule.Rule.{Rule}
 use Rattle.rules.specs.declared.rule.Rule.TheVariants.{Clause, Parity}
 use Rattle.rules.specs.Constraints.{Constraint, clause, parity, entries}
 
 -- the literals of a clause
-abbrev pub literals_of : code-clause.Clause → List Literal
+abbrev pub literals_of : code_clause.Clause → List Literal
 literals_of c = take c.width c.literals
 
 -- the switches of a parity rule
-abbrev pub switches_of : code-parity.Parity → List ℕ
+abbrev pub switches_of : code_parity.Parity → List ℕ
 switches_of p = take p.width p.switches
 
 -- the rule that a value of the code is
@@ -27,7 +27,7 @@ abbrev pub row_constraint : Row → Constraint
 row_constraint r = parity (take r.width r.switches) r.side
 
 -- a clause is a rule
-abbrev pub clause_constraint : code-clause.Clause → Constraint
+abbrev pub clause_constraint : code_clause.Clause → Constraint
 clause_constraint c = clause (literals_of c)
 
 -- entry j of a rule, absent past its end

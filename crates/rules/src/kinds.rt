@@ -1,6 +1,6 @@
 // The kinds of rules, and how wide a rule of each kind may be.
 ghost use Rattle.std.specs.Prelude.{◌≡◌, ℕ};
-ghost use Rattle.rules.specs.Entries.{side_of};
+ghost use Rattle.rules.specs.Entries.{side_numbered};
 
 // Whether an even or an odd number of a parity rule's switches is to be on.
 #[derive(Clone, Copy, PartialEq, Eq, Debug)]
@@ -35,7 +35,7 @@ pub trait RuleKind {
 
 // Side 0 is even and side 1 is odd; no other number is a side.
 pub fn side_of(number: u8) -> Option<Side>
-    ensures { result ≡ side_of number }
+    ensures { result ≡ side_numbered number }
 {
     match number {
         0 => Some(Side::Even),

@@ -10,7 +10,7 @@ use Rattle.search_theory.proofs.Forcing.{lies_none, lies_trans, lies_forces, for
 use Rattle.search_theory.proofs.Switches.{unset_le, unset_put}
 use Rattle.search_theory.proofs.Systems.{lies_front, lies_back, any_dead_front, any_dead_back, still_both}
 use Rattle.search.specs.declared.values.PartSetting.{PartSetting}
-use Rattle.search.specs.declared.looking.Pass.TheVariants.{Quiet as pass-quiet, Dead as pass-dead, Forces as pass-forces}
+use Rattle.search.specs.declared.looking.Pass.TheVariants.{Quiet as pass_quiet, Dead as pass_dead, Forces as pass_forces}
 use Rattle.search.specs.declared.looking.Forced.{Forced}
 use Rattle.search.specs.Values.{part_of, Puts}
 use Rattle.search.specs.Looks.{look_of, pass_at, pass_from}
@@ -18,11 +18,11 @@ use Rattle.search.specs.Moves.{Moves, left_over}
 
 -- what a pass tells of the rules from an index on
 module _ (p : Part) where
-  pass_still : (i : ℕ) (rs : List Constraint) → pass-quiet ≡ pass_from p i rs → Still rs p
+  pass_still : (i : ℕ) (rs : List Constraint) → pass_quiet ≡ pass_from p i rs → Still rs p
   pass_still i [] e = record { live = refl; quiet = refl }
   pass_still i (r ∷ rs) e = by (pass_still (i + 1) rs) (dead p r) refl (says p r) refl e
     where
-      by : (pass-quiet ≡ pass_from p (i + 1) rs → Still rs p) → (d : Bool) → dead p r ≡ d → (o : Option Literal) → says p r ≡ o → pass-quiet ≡ pass_at (look_of d o) i (pass_from p (i + 1) rs) → Still (r ∷ rs) p
+      by : (pass_quiet ≡ pass_from p (i + 1) rs → Still rs p) → (d : Bool) → dead p r ≡ d → (o : Option Literal) → says p r ≡ o → pass_quiet ≡ pass_at (look_of d o) i (pass_from p (i + 1) rs) → Still (r ∷ rs) p
       by ih true f o g h = let z : ◌≡◌ {A = ℕ} 0 1 = cc in absurd (omega arith)
       by ih false f None g h =
           let s = ih h in
@@ -31,20 +31,20 @@ module _ (p : Part) where
           record { live = grind arith; quiet = grind arith }
       by ih false f (Some l) g h = let z : ◌≡◌ {A = ℕ} 0 1 = cc in absurd (omega arith)
 
-  pass_dies : (i : ℕ) (rs : List Constraint) → pass-dead ≡ pass_from p i rs → any_dead p rs ≡ true
+  pass_dies : (i : ℕ) (rs : List Constraint) → pass_dead ≡ pass_from p i rs → any_dead p rs ≡ true
   pass_dies i [] e = let z : ◌≡◌ {A = ℕ} 0 1 = cc in absurd (omega arith)
   pass_dies i (r ∷ rs) e = by (pass_dies (i + 1) rs) (dead p r) refl (says p r) refl e
     where
-      by : (pass-dead ≡ pass_from p (i + 1) rs → any_dead p rs ≡ true) → (d : Bool) → dead p r ≡ d → (o : Option Literal) → says p r ≡ o → pass-dead ≡ pass_at (look_of d o) i (pass_from p (i + 1) rs) → any_dead p (r ∷ rs) ≡ true
+      by : (pass_dead ≡ pass_from p (i + 1) rs → any_dead p rs ≡ true) → (d : Bool) → dead p r ≡ d → (o : Option Literal) → says p r ≡ o → pass_dead ≡ pass_at (look_of d o) i (pass_from p (i + 1) rs) → any_dead p (r ∷ rs) ≡ true
       by ih true f o g h = grind arith
       by ih false f None g h = let s = ih h in grind arith
       by ih false f (Some l) g h = let z : ◌≡◌ {A = ℕ} 0 1 = cc in absurd (omega arith)
 
-  pass_says : (i : ℕ) (rs : List Constraint) (x : Forced) → pass-forces x ≡ pass_from p i rs → Forces rs p x.literal
+  pass_says : (i : ℕ) (rs : List Constraint) (x : Forced) → pass_forces x ≡ pass_from p i rs → Forces rs p x.literal
   pass_says i [] x e = let z : ◌≡◌ {A = ℕ} 0 1 = cc in absurd (omega arith)
   pass_says i (r ∷ rs) x e = by (pass_says (i + 1) rs x) (dead p r) refl (says p r) refl e
     where
-      by : (pass-forces x ≡ pass_from p (i + 1) rs → Forces rs p x.literal) → (d : Bool) → dead p r ≡ d → (o : Option Literal) → says p r ≡ o → pass-forces x ≡ pass_at (look_of d o) i (pass_from p (i + 1) rs) → Forces (r ∷ rs) p x.literal
+      by : (pass_forces x ≡ pass_from p (i + 1) rs → Forces rs p x.literal) → (d : Bool) → dead p r ≡ d → (o : Option Literal) → says p r ≡ o → pass_forces x ≡ pass_at (look_of d o) i (pass_from p (i + 1) rs) → Forces (r ∷ rs) p x.literal
       by ih true f o g h = let z : ◌≡◌ {A = ℕ} 0 1 = cc in absurd (omega arith)
       by ih false f None g h = inr (ih h)
       by ih false f (Some l) g h =
@@ -84,10 +84,10 @@ module _ (rs : List Constraint) (level : ℕ) where
 
 -- the next forced switch of a pass
 module _ (rs : List Constraint) (level from : ℕ) (s : PartSetting) where
-  pub next_dead : pass-dead ≡ pass_from (part_of s.values) from (drop from rs) → any_dead (part_of s.values) rs ≡ true
+  pub next_dead : pass_dead ≡ pass_from (part_of s.values) from (drop from rs) → any_dead (part_of s.values) rs ≡ true
   next_dead e = dead_drop (part_of s.values) from rs (pass_dies (part_of s.values) from (drop from rs) e)
 
-  pub next_quiet : from ≡ 0 → pass-quiet ≡ pass_from (part_of s.values) from (drop from rs) → Still rs (part_of s.values)
+  pub next_quiet : from ≡ 0 → pass_quiet ≡ pass_from (part_of s.values) from (drop from rs) → Still rs (part_of s.values)
   next_quiet z e = subst (λ i. Still (drop i rs) (part_of s.values)) z (pass_still (part_of s.values) from (drop from rs) e)
 
   pub next_again : (n : ℕ) → (from ≡ 0 → ⊥) → left_over n s 0 < left_over n s from
@@ -97,7 +97,7 @@ module _ (rs : List Constraint) (level from : ℕ) (s : PartSetting) where
       let one : bit (ltb 0 from) ≡ 1 = grind arith in
       omega arith
 
-  module _ (x : Forced) (e : pass-forces x ≡ pass_from (part_of s.values) from (drop from rs)) where
+  module _ (x : Forced) (e : pass_forces x ≡ pass_from (part_of s.values) from (drop from rs)) where
     next_forces : Forces rs (part_of s.values) x.literal
     next_forces = some_drop (λ r. says (part_of s.values) r ≡ Some x.literal) from rs (pass_says (part_of s.values) from (drop from rs) x e)
 

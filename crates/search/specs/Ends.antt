@@ -7,12 +7,12 @@ use Rattle.search_theory.specs.Tries.{values, Course, found, nothing, due}
 use Rattle.search_theory.specs.Courses.{onward, tries, has_ended}
 use Rattle.search_theory.specs.Theorems.{Unkept, Found}
 use Rattle.search.specs.declared.progress.End.{End}
-use Rattle.search.specs.declared.progress.End.TheVariants.{Spent, Found as end_found, None as end_None}
+use Rattle.search.specs.declared.progress.End.TheVariants.{Spent, Found as end_found, None as end_none}
 use Rattle.search.specs.declared.progress.Progress.{Progress}
 
 abbrev pub end_of : Course → End
 end_of (found s) = end_found
-end_of nothing = end_None
+end_of nothing = end_none
 end_of (due ts) = Spent
 
 -- the course went on by the budget, and this is told
@@ -26,4 +26,4 @@ pub record WentOn (next : List Literal → Course) (budget : ℕ) (before after 
 abbrev pub Tells : End → ℕ → List Constraint → Part → Course → Type 0
 Tells Spent n rules p c = has_ended c ≡ false
 Tells end_found n rules p c = Found n rules p (values n p)
-Tells end_None n rules p c = Unkept rules
+Tells end_none n rules p c = Unkept rules

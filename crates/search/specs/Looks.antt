@@ -9,7 +9,7 @@ use Rattle.search.specs.declared.looking.Look.TheVariants.{Quiet, Dead, Forces}
 use Rattle.search.specs.declared.looking.Status.{Status}
 use Rattle.search.specs.declared.looking.Status.TheVariants.{Unset, Kept, Broken}
 use Rattle.search.specs.declared.looking.Pass.{Pass}
-use Rattle.search.specs.declared.looking.Pass.TheVariants.{Quiet as pass-quiet, Dead as pass-dead, Forces as pass-forces}
+use Rattle.search.specs.declared.looking.Pass.TheVariants.{Quiet as pass_quiet, Dead as pass_dead, Forces as pass_forces}
 
 -- the status of a literal whose switch has the value x, and which b keeps
 abbrev pub HasStatus : Status → Option Bool → Bool → Type 0
@@ -32,21 +32,21 @@ ForcesOne r = (p : Part) (l : Literal) → says p r ≡ Some l → (p l.switch �
 
 abbrev pub pass_at : Look → ℕ → Pass → Pass
 pass_at Quiet i later = later
-pass_at Dead i later = pass-dead
-pass_at (Forces l) i later = pass-forces (record { at = i; literal = l })
+pass_at Dead i later = pass_dead
+pass_at (Forces l) i later = pass_forces (record { at = i; literal = l })
 
 -- the first rule that is dead or forces a switch, where the first of the rules has the index i
 abbrev pub pass_from : Part → ℕ → List Constraint → Pass
-pass_from p i [] = pass-quiet
+pass_from p i [] = pass_quiet
 pass_from p i (r ∷ rs) = pass_at (look_at p r) i (pass_from p (i + 1) rs)
 
 -- what is forced is unset
 abbrev pub UnsetBy : Pass → Part → Type 0
-UnsetBy pass-quiet p = Unit {0}
-UnsetBy pass-dead p = Unit {0}
-UnsetBy (pass-forces f) p = p f.literal.switch ≡ None
+UnsetBy pass_quiet p = Unit {0}
+UnsetBy pass_dead p = Unit {0}
+UnsetBy (pass_forces f) p = p f.literal.switch ≡ None
 
 abbrev pub IndexBelow : Pass → ℕ → Type 0
-IndexBelow pass-quiet n = Unit {0}
-IndexBelow pass-dead n = Unit {0}
-IndexBelow (pass-forces f) n = f.at < n
+IndexBelow pass_quiet n = Unit {0}
+IndexBelow pass_dead n = Unit {0}
+IndexBelow (pass_forces f) n = f.at < n

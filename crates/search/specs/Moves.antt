@@ -30,7 +30,7 @@ Ends false rules p = Still rules p
 unfoldable pub left_over : ℕ → PartSetting → ℕ → ℕ
 left_over n s from = 2 * unset n (part_of s.values) + bit (nat_lt 0 from)
 
-abbrev pub Goes_on : Onward → List Constraint → ℕ → PartSetting → PartSetting → Type 0
-Goes_on Dead rules from s t = any_dead (part_of t.values) rules ≡ true
-Goes_on Quiet rules from s t = Still rules (part_of t.values) × (t ≡ s)
-Goes_on (From next) rules from s t = left_over 256 t next < left_over 256 s from
+abbrev pub GoesOn : Onward → List Constraint → ℕ → PartSetting → PartSetting → Type 0
+GoesOn Dead rules from s t = any_dead (part_of t.values) rules ≡ true
+GoesOn Quiet rules from s t = Still rules (part_of t.values) × (t ≡ s)
+GoesOn (From next) rules from s t = left_over 256 t next < left_over 256 s from

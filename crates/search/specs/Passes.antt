@@ -1,4 +1,4 @@
--- Passes over rules.
+-- Lemmas for the laws of rules that force: passes over rules.
 use Rattle.std.specs.Prelude.{◌≡◌, ℕ, zero, suc, ◌+◌, ◌<◌, ◌≤◌, Bool, true, false, List, [], ◌∷◌, map, length, drop, Some, None, Option, slice_index_or}
 use Rattle.std.proofs.Common.{sym, ap, ◌∙◌, arith}
 use Rattle.std.proofs.lemmas.List.{at_drop_more, at_drop_all, drop-map}
@@ -9,7 +9,7 @@ use Rattle.search_theory.specs.Forcing.{says, dead}
 use Rattle.search_theory.proofs.Rules.{says_unset, says_alone}
 use Rattle.search.specs.declared.looking.Look.{Look}
 use Rattle.search.specs.declared.looking.Look.TheVariants.{Quiet, Dead, Forces}
-use Rattle.search.specs.declared.looking.Pass.TheVariants.{Quiet as pass-quiet}
+use Rattle.search.specs.declared.looking.Pass.TheVariants.{Quiet as pass_quiet}
 use Rattle.search.specs.Looks.{look_of, look_at, ForcesOne, pass_at, pass_from}
 
 -- what a look tells, and what tells a look
@@ -51,7 +51,7 @@ module _ {R : Type 0} (f : R → Constraint) (xs : List R) (i : ℕ) where
       → pass_at k i (pass_from p (i + 1) (drop (i + 1) (map f xs))) ≡ pass_from p i (drop i (map f xs))
   pass_more p x h read k e = ap (λ y. pass_at y i (pass_from p (i + 1) (drop (i + 1) (map f xs)))) e ∙ sym (ap (pass_from p i) (left_more x h read))
 
-  pub pass_all : (p : Part) → length xs ≤ i → pass-quiet ≡ pass_from p i (drop i (map f xs))
+  pub pass_all : (p : Part) → length xs ≤ i → pass_quiet ≡ pass_from p i (drop i (map f xs))
   pass_all p h = sym (ap (pass_from p i) (left_all h))
 
 -- what a rule forces was unset, and its other switches are set

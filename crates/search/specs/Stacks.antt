@@ -1,5 +1,5 @@
 -- The table of tries, as a stack.
-use Rattle.std.specs.Prelude.{◌≡◌, ℕ, zero, suc, ◌+◌, ◌<◌, ◌≤◌, true, false, List, [], ◌∷◌, get_or, Some, None, Option, slice_index_or}
+use Rattle.std.specs.Prelude.{◌≡◌, ℕ, zero, suc, ◌+◌, ◌<◌, ◌≤◌, true, false, List, [], ◌∷◌, Some, None, Option, slice_index_or}
 use Rattle.rules.specs.declared.literals.Literal.{Literal}
 use Rattle.rules.specs.Constraints.{positive}
 use Rattle.search_theory.specs.Tries.{turn}
@@ -26,7 +26,7 @@ stack_of t = stack t.table t.count
 -- where the latest try at off stands
 abbrev pub LatestOff : Option ℕ → Tries → Type 0
 LatestOff None t = turn (stack_of t) ≡ None
-LatestOff (Some i) t = (i < t.count) × (turn (stack_of t) ≡ Some (positive (get_or t.table i no_try).switch ∷ stack t.table i))
+LatestOff (Some i) t = (i < t.count) × (turn (stack_of t) ≡ Some (positive (slice_index_or t.table i no_try).switch ∷ stack t.table i))
 
 -- the tries u are the first k of t, and l on top of them
 pub record Tops (l : Literal) (k : ℕ) (t u : Tries) : Type 0 where

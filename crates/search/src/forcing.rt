@@ -2,7 +2,7 @@
 ghost use Rattle.std.specs.Prelude.{map};
 ghost use Rattle.search_theory.specs.Forcing.{Over};
 ghost use Rattle.search.specs.Values.{part_of};
-ghost use Rattle.search.specs.Moves.{rules_of, Moves, Ends, Goes_on};
+ghost use Rattle.search.specs.Moves.{rules_of, Moves, Ends, GoesOn};
 
 use crate::looking::{Forcing, Pass, first_forced};
 use crate::system::System;
@@ -21,7 +21,7 @@ pub enum Onward {
 fn force_next<R: Forcing>(rules: &[R], from: usize, part: &mut PartSetting, level: u16) -> Onward
     requires { Over 256 (map R.Forcing.constraint rules.now) }
     ensures moves { Moves (map R.Forcing.constraint rules.now) level part.old part.new }
-    ensures goes { Goes_on result (map R.Forcing.constraint rules.now) from part.old part.new }
+    ensures goes { GoesOn result (map R.Forcing.constraint rules.now) from part.old part.new }
 {
     match first_forced(rules, from, &part.values) {
         Pass::Dead => Onward::Dead,

@@ -1,5 +1,5 @@
 // The tries of a search.
-ghost use Rattle.std.specs.Prelude.{◌≡◌, ◌<◌, ◌≤◌, get_or, slice_index_or, slice_set};
+ghost use Rattle.std.specs.Prelude.{◌≡◌, ◌<◌, ◌≤◌, slice_index_or, slice_set};
 ghost use Rattle.rules.specs.Constraints.{positive};
 ghost use Rattle.search_theory.specs.Tries.{negative};
 ghost use Rattle.search.specs.Stacks.{no_try, turned, LatestOff, Tops};
@@ -44,7 +44,7 @@ impl Tries {
     pub(crate) fn turn_at(&mut self, at: usize)
         requires { at < 256 }
         ensures table { self.new.table ≡ slice_set self.old.table at (turned (slice_index_or self.old.table at no_try)) }
-        ensures tops { Tops (positive (get_or self.old.table at no_try).switch) at self.old self.new }
+        ensures tops { Tops (positive (slice_index_or self.old.table at no_try).switch) at self.old self.new }
     {
         self.table[at].turn();
         self.count = at + 1;

@@ -62,7 +62,7 @@ pub(crate) fn value_at(values: &[Value; 256], switch: u16) -> Option<bool>
 
 // Unsets what was set at a level above the limit.
 fn unset_above(values: &mut [Value; 256], levels: &[u16; 256], limit: u16)
-    ensures { part_of values.exit.now ≡ upto (record { values = values.entry.now; levels = levels.now }) limit }
+    ensures { part_of values.new ≡ upto (record { values = values.old; levels = levels.now }) limit }
 {
     for index in 0..256usize {
         values[index] = kept_to(limit, levels[index], values[index]);

@@ -16,7 +16,7 @@ use Rattle.parity_theory.specs.Reducing.{freedom}
 use Rattle.session_theory.specs.Session as theory
 use Rattle.session.specs.declared.ends.Settled.{Settled}
 use Rattle.session.specs.Ends.{settle_entry}
-use Rattle.session.specs.Calls.{Went, Admitted, Goes_on}
+use Rattle.session.specs.Calls.{Went, Admitted, GoesOn}
 
 pub overwritten_more : (vs : List Bool) (old : List ℕ) (i : ℕ) → i < length vs → i < length old → set (map bit (take i vs) ++ drop i old) i (bit (get_or vs i false)) ≡ map bit (take (i + 1) vs) ++ drop (i + 1) old
 overwritten_more vs old i lt room = rw add-one (by vs old i lt room)
@@ -70,5 +70,5 @@ unfolding Happens
 freedom_happens s f is = (is, refl)
 
 -- what happens goes on lawfully
-pub lawfully : (s t : Session) (x : theory.Entry) → Happens s x t → Goes_on s x t
+pub lawfully : (s t : Session) (x : theory.Entry) → Happens s x t → GoesOn s x t
 lawfully s t x p m good h r = goes_on m good h s t x r p

@@ -12,7 +12,7 @@ use Rattle.rules.proofs.Sets.{constraints_set}
 use Rattle.parity.specs.declared.reduction.Reduction.{Reduction}
 use Rattle.search.specs.declared.progress.End.{End}
 use Rattle.search.specs.declared.progress.End.TheVariants as end
-use Rattle.search.specs.contracts.progress.End.{the_row as End-row}
+use Rattle.search.specs.contracts.progress.End.{the_row as end_row}
 use Rattle.search.specs.declared.search.Search.{Search}
 use Rattle.search.specs.declared.system.System.{System}
 use Rattle.session.specs.declared.phases.Phase.{Phase}
@@ -50,7 +50,7 @@ module _ (n : ℕ) (rules : List Constraint) where
   stands_prop : (e : End) (s : Search) → IsProp (Stands e n rules s)
   stands_prop e s x y = λ i. record {
     over = over_prop s.system x.over y.over i;
-    ends = Coded-set End-row.coded _ _ x.ends y.ends i;
+    ends = Coded-set end_row.coded _ _ x.ends y.ends i;
   }
 
   tells_prop : (p : Phase) (s : Search) → IsProp (Tells p n rules s)

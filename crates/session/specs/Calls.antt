@@ -18,8 +18,8 @@ use Rattle.session.specs.declared.ends.Settled as code
 use Rattle.session.specs.Ends.{end_in}
 
 -- whatever was called before on the session s, which the call x leaves as t: the history goes on, and all of it is lawful
-abbrev pub Goes_on : Session → Entry → Session → Type 0
-Goes_on s x t = (m : Meaning) → LawfulSheet m → (h : History) → Recorded m h s → Recorded m (x ∷ h) t × Lawful m (x ∷ h)
+abbrev pub GoesOn : Session → Entry → Session → Type 0
+GoesOn s x t = (m : Meaning) → LawfulSheet m → (h : History) → Recorded m h s → Recorded m (x ∷ h) t × Lawful m (x ∷ h)
 
 -- the search went on from the course c by the budget, and this is told
 pub record Went (s : Session) (c : Course) (b : ℕ) (told : code.Settled) (t : Session) : Type 0 where

@@ -2,7 +2,7 @@
 ghost use Rattle.session_theory.specs.Session.{Happens, took, freedom_told, copied};
 ghost use Rattle.session.specs.Ends.{settle_entry};
 ghost use Rattle.session.specs.Sessions.{session_of};
-ghost use Rattle.session.specs.Calls.{Goes_on};
+ghost use Rattle.session.specs.Calls.{GoesOn};
 
 use crate::ends::Settled;
 use crate::events::{Answer, Event};
@@ -18,7 +18,7 @@ impl Session {
     // Takes a rule into the margin, which holds at most 64; the search then begins anew. What is refused alters nothing.
     pub fn take(&mut self, kind: RawKind, entries: &[i16]) -> Result<(), Fault>
         ensures happens { Happens (session_of self.old) (took kind entries.now result) (session_of self.new) }
-        ensures lawful { Goes_on (session_of self.old) (took kind entries.now result) (session_of self.new) }
+        ensures lawful { GoesOn (session_of self.old) (took kind entries.now result) (session_of self.new) }
     {
         match self.answer(Event::Take(kind), entries) {
             Answer::Took(reply) => reply,
@@ -29,7 +29,7 @@ impl Session {
     // The number of free switches, absent where no setting keeps the parity rules that stand.
     pub fn freedom(&self) -> Option<usize>
         ensures happens { Happens (session_of self.now) (freedom_told result) (session_of self.now) }
-        ensures lawful { Goes_on (session_of self.now) (freedom_told result) (session_of self.now) }
+        ensures lawful { GoesOn (session_of self.now) (freedom_told result) (session_of self.now) }
     {
         self.reduction.freedom()
     }
@@ -37,7 +37,7 @@ impl Session {
     // Goes on with the search for at most so many tries, from its beginning where it has not begun over the rules that stand.
     pub fn settle(&mut self, budget: u32) -> Settled
         ensures happens { Happens (session_of self.old) (settle_entry budget result) (session_of self.new) }
-        ensures lawful { Goes_on (session_of self.old) (settle_entry budget result) (session_of self.new) }
+        ensures lawful { GoesOn (session_of self.old) (settle_entry budget result) (session_of self.new) }
     {
         match self.answer(Event::Settle(budget), &[]) {
             Answer::Took(_reply) => unreachable(),
@@ -48,7 +48,7 @@ impl Session {
     // Writes the setting that was found to the front of the buffer, a byte for each switch. What is refused writes nothing.
     pub fn copy(&self, out: &mut [u8]) -> Result<(), Fault>
         ensures happens { Happens (session_of self.now) (copied out.old result out.new) (session_of self.now) }
-        ensures lawful { Goes_on (session_of self.now) (copied out.old result out.new) (session_of self.now) }
+        ensures lawful { GoesOn (session_of self.now) (copied out.old result out.new) (session_of self.now) }
     {
         if out.len() < usize::from(self.rules.switches) {
             return Err(refusal(Cause::ShortBuffer));

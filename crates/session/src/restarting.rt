@@ -3,11 +3,11 @@ ghost use Rattle.std.specs.Prelude.{◌≡◌, ◌+◌, ◌<◌, ◌≤◌, [], 
 ghost use Rattle.rules.specs.Constraints.{clause};
 ghost use Rattle.rules.specs.Views.{constraint, clause_constraint, row_constraint};
 ghost use Rattle.parity_theory.specs.Recovering.{clauses as clauses_of};
-ghost use Rattle.parity_theory.specs.Reducing.{rows as rows_of_lem};
+ghost use Rattle.parity_theory.specs.Reducing.{rows as rows_of};
 ghost use Rattle.parity.specs.Reductions.{standing_rules};
 ghost use Rattle.search_theory.specs.Courses.{begin};
 ghost use Rattle.search.specs.Searches.{course_of};
-ghost use Rattle.session_theory.specs.System.{system as system-of};
+ghost use Rattle.session_theory.specs.System.{system as system_of};
 ghost use Rattle.session.specs.Phases.{Over};
 
 use parity::standing::Standing;
@@ -82,9 +82,9 @@ fn fill_rows(rows: &mut Vec<Row>, given: &[Row])
 pub(crate) fn restart(search: &mut Search, heap: Global, rules: &Standing, rows: &[Row])
     requires clauses { 2112 ≤ vec_capacity search.old.system.clauses }
     requires rows { 256 ≤ vec_capacity search.old.system.rows }
-    requires reduced { rows_of_lem rules.now.switches (standing_rules rules.now) ≡ Some (map row_constraint rows.now) }
+    requires reduced { rows_of rules.now.switches (standing_rules rules.now) ≡ Some (map row_constraint rows.now) }
     ensures over { Over rules.now.switches (standing_rules rules.now) search.new.system }
-    ensures course { course_of search.new ≡ begin rules.now.switches (system-of rules.now.switches (standing_rules rules.now)) }
+    ensures course { course_of search.new ≡ begin rules.now.switches (system_of rules.now.switches (standing_rules rules.now)) }
     ensures clauses { 2112 ≤ vec_capacity search.new.system.clauses }
     ensures rows { 256 ≤ vec_capacity search.new.system.rows }
 {

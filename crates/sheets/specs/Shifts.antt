@@ -1,4 +1,4 @@
--- A sheet with a number added to each switch number.
+-- Lemmas for the law of a placing: a sheet with a number added to each switch number.
 use Rattle.std.specs.Prelude.{◌≡◌, ℕ, ◌+◌, ◌≤◌, Bool, true, not, List, [], ◌∷◌, map, length, Some, None, Option, ◌==◌, refl}
 use Rattle.std.proofs.Common.{sym, ap, ◌∙◌, arith}
 use Rattle.std.proofs.lemmas.List.{length-map}

@@ -1,4 +1,4 @@
--- What a lawful sheet tells of its entries.
+-- Lemmas for the laws of sheets: what a lawful sheet tells of its entries, and that a table is one.
 use Rattle.std.specs.Prelude.{◌≡◌, ℕ, zero, suc, ◌+◌, ◌<◌, ◌≤◌, Bool, true, List, [], ◌∷◌, ◌++◌, map, length, take, Some, None, Option, slice_set, refl}
 use Rattle.std.proofs.Common.{sym, ap, ◌∙◌, add-one, arith}
 use Rattle.std.specs.List.{slice_get}
@@ -10,6 +10,8 @@ use Rattle.rules.specs.declared.kinds.Kind.TheVariants.{Clause, Parity}
 use Rattle.rules.specs.First.{every}
 use Rattle.rules.specs.Constraints.{Constraint, clause, parity, kind, switches, entries, switch_of, positive}
 use Rattle.rules.specs.Lawful.{lawful, widest}
+use Rattle.rules.specs.declared.rule.Rule.{Rule}
+use Rattle.rules.specs.Views.{constraint}
 use Rattle.rules.proofs.Lawfuls.{lawful_by_place}
 use Rattle.sheets.specs.Meaning.{Meaning, LawfulSheet, entries_in, told_kind}
 
@@ -71,3 +73,7 @@ clause_few m law i h = by (slice_get m.rules i) refl h
 pub switches_back : (vs : List ℕ) → map switch_of (map positive vs) ≡ vs
 switches_back [] = refl
 switches_back (v ∷ vs) = ap (λ l. v ∷ l) (switches_back vs)
+
+-- what a table holds is a lawful sheet
+pub table_lawful : (n k : ℕ) (rs : List Rule) → n ≤ 256 → k ≤ 1024 → k ≡ length rs → every (lawful n) (map constraint rs) ≡ true → LawfulSheet (record { switches = n; rules = map constraint rs })
+table_lawful n k rs narrow short same sound = record { narrow = narrow; short = simp length-map (omega arith); sound = sound }

@@ -3,8 +3,7 @@ ghost use Rattle.std.specs.Prelude.{◌≡◌, ◌≤◌, true, map, vec_len};
 ghost use Rattle.rules.specs.First.{every};
 ghost use Rattle.rules.specs.Lawful.{lawful};
 ghost use Rattle.rules.specs.Views.{constraint};
-ghost use Rattle.std.proofs.lemmas.List.{length-map};
-ghost use Rattle.std.proofs.Common.{arith};
+ghost use Rattle.sheets.specs.Telling.{table_lawful};
 
 use crate::sheet::Sheet;
 use rules::kinds::Kind;
@@ -23,7 +22,7 @@ pub struct Table {
 impl Sheet for Table {
     ghost meaning = { λ t. record { switches = t.switches; rules = map constraint t.rules.items } };
 
-    ghost lawful = { λ s. record { narrow = s.narrow; short = simp length-map (omega arith); sound = s.sound } };
+    ghost lawful = { λ s. table_lawful s.switches (vec_len s.rules) s.rules.items s.narrow s.short s.rules.ok.0 s.sound };
 
     fn switches(&self) -> u16 {
         self.switches
