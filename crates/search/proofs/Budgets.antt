@@ -9,7 +9,7 @@ use Rattle.search.specs.Ends.{end_of, WentOn}
 
 module _ (next : List Literal → Course) (budget tries : ℕ) (now before : Course) (so : Sofar next budget tries now before) where
   -- the search has ended
-  pub went_found : (s : List Bool) → now ≡ found s → WentOn next budget before now (record { end = Found; tries = tries })
+  pub went_found : (s : List Bool) → now ≡ found s → WentOn next budget before now (record { end = Found tt; tries = tries })
   went_found s e =
       let h = sofar_ended next budget tries now before (ap has_ended e) so in
       record { course = h.0; tries = h.1; end = sym (ap end_of e) }

@@ -47,6 +47,6 @@ module _ (n : ℕ) (rules : List Constraint) (red : Reduced n rules) (s : State)
   tells_at nothing e = none_keeps e
   tells_at (due ts) e = ap has_ended e
 
-  pub tells : (end : End) → end ≡ end_of (step n rules (stack_of s.tries)) → Tells end n rules (part_of s.part.values) (step n rules (stack_of s.tries))
+  pub tells : (end : End (Unit {0})) → end ≡ end_of (step n rules (stack_of s.tries)) → Tells end n rules (part_of s.part.values) (step n rules (stack_of s.tries))
   tells end is =
       subst (λ x. Tells x n rules (part_of s.part.values) (step n rules (stack_of s.tries))) (sym is) (tells_at (step n rules (stack_of s.tries)) refl)

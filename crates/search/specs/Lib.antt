@@ -4,6 +4,7 @@ pub mod Systems
 pub mod Moves
 pub mod Stacks
 pub mod States
+pub mod Maps
 pub mod Ends
 pub mod Searches
 pub mod Passes

@@ -24,7 +24,7 @@ impl Search {
     }
 
     // Goes on for at most so many tries.
-    pub fn go_on(&mut self, budget: u32) -> Progress
+    pub fn go_on(&mut self, budget: u32) -> Progress<()>
         ensures goes { WentOn (next_in self.old.system.switches (Some (rules_of self.old.system))) budget (course_of self.old) (course_of self.new) result }
         ensures tells { Tells result.end self.old.system.switches (rules_of self.old.system) (shown self.new) (course_of self.new) }
         ensures same { self.new.system ≡ self.old.system }

@@ -146,7 +146,7 @@ impl State {
     }
 
     // Goes on for at most so many tries.
-    pub(crate) fn go_on(&mut self, system: &System, budget: u32) -> Progress
+    pub(crate) fn go_on(&mut self, system: &System, budget: u32) -> Progress<()>
         requires { Standing system.now.switches (rules_of system.now) self.old }
         ensures stands { Standing system.now.switches (rules_of system.now) self.new }
         ensures goes { WentOn (step system.now.switches (rules_of system.now)) budget (step system.now.switches (rules_of system.now) (stack_of self.old.tries)) (step system.now.switches (rules_of system.now) (stack_of self.new.tries)) result }
@@ -155,7 +155,7 @@ impl State {
         loop {
             match self.next(system) {
                 Next::Found => return Progress {
-                    end: End::Found,
+                    end: End::Found(()),
                     tries,
                 },
                 Next::Nothing => return Progress {

@@ -52,7 +52,7 @@ fn run(rt: &HostRuntime) -> anyhow::Result<()> {
     let tries = progress.tries;
     match progress.end {
         End::Spent => println!(rt; "spent {tries}")?,
-        End::Found => println!(rt; "found {tries}")?,
+        End::Found(()) => println!(rt; "found {tries}")?,
         End::None => println!(rt; "none {tries}")?,
     }
     Ok(())
