@@ -7,7 +7,8 @@ use Rattle.rules.specs.Settings.{Setting, Within}
 use Rattle.rules.specs.Constraints.{xor, same, odd_on, is_odd, kept, Each, Keeps}
 use Rattle.rules.specs.Lawful.{absent}
 use Rattle.rules.specs.Rows.{free, tally, Falling, Member, Apart, Reduced}
-use Rattle.parity_theory.specs.Equations.{has, odd_in, side_when, satisfies}
+use Rattle.parity_theory.specs.Equations.{has, odd_in, satisfies}
+use Rattle.rules.specs.Constraints.{side_when}
 use Rattle.parity_theory.specs.Reducing.{Row, falling, as_rule}
 use Rattle.parity_theory.specs.Claims.{is_parity}
 use Rattle.parity_theory.proofs.Lists.{each_map, each_zip}

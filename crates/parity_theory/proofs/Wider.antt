@@ -7,7 +7,8 @@ use Rattle.rules.specs.declared.kinds.Side.{Side}
 use Rattle.rules.specs.First.{every}
 use Rattle.rules.specs.Constraints.{Constraint, clause, parity, xor, switch_of, Each}
 use Rattle.rules.specs.Lawful.{inside, lawful}
-use Rattle.parity_theory.specs.Equations.{has, Equation, equation, side_when, plus}
+use Rattle.parity_theory.specs.Equations.{has, Equation, equation, plus}
+use Rattle.rules.specs.Constraints.{side_when}
 use Rattle.parity_theory.specs.Recovering.{clauses, named, side_of, narrow, recovers, equation_of, equations_of}
 use Rattle.parity_theory.specs.Reducing.{Row, row, highest, cleared_by, cleared, joined, placed, extended, reduce_from, reduce, falling, as_rule, as_rules, rows}
 use Rattle.parity_theory.specs.Claims.{LawfulRules}

@@ -2,7 +2,6 @@
 use Rattle.std.specs.Prelude.{ℕ, zero, suc, Bool, true, false, not, ◌&&◌, List, [], ◌∷◌, map}
 use Rattle.std.specs.List.{range_with_len}
 use Rattle.rules.specs.declared.kinds.Side.{Side}
-use Rattle.rules.specs.declared.kinds.Side.TheVariants.{Even, Odd}
 use Rattle.rules.specs.Settings.{Setting, setting}
 use Rattle.rules.specs.Constraints.{xor, same, is_odd}
 use Rattle.rules.specs.Lawful.{absent}
@@ -35,11 +34,6 @@ pub record Equation : Type 0 where
 -- the equation of the parity rule on vs
 abbrev pub equation : ℕ → List ℕ → Side → Equation
 equation n vs side = record { members = set_of n vs; odd = is_odd side }
-
--- the side of an equation that asks for an odd number, or else for an even one
-abbrev pub side_when : Bool → Side
-side_when true = Odd
-side_when false = Even
 
 -- the sum of two equations: what keeps both keeps it
 abbrev pub plus : Equation → Equation → Equation

@@ -1,23 +1,23 @@
 -- The steps of a search for the first finding.
-use Rattle.std.proofs.Common.{◌≡◌, ℕ, zero, suc, ◌+◌, ◌<◌, Bool, true, false, Some, None, Option, refl, ap, ◌∙◌, subst, ⊎_elim, add-one, arith}
+use Rattle.std.proofs.Common.{◌≡◌, ℕ, zero, suc, ◌+◌, ◌<◌, ◌≤◌, Bool, false, ◌||◌, List, [], ◌∷◌, ◌++◌, length, take, get_or, sym, Some, None, Option, refl, ap, ◌∙◌, subst, ⊎_elim, add-one, arith}
 use Rattle.std.specs.Option.{option_or}
-use Rattle.std.proofs.lemmas.Bool.{cases_lt, or_from, or_left, or_right}
+use Rattle.std.proofs.lemmas.Bool.{cases_lt}
+use Rattle.std.specs.List.{list_any}
+use Rattle.std.proofs.Math.Bool.{or-false}
+use Rattle.std.proofs.lemmas.List.{take_more}
+use Rattle.std.proofs.lemmas.List.Folds.{list_any-append}
 use Rattle.rules.specs.First.{first_of, some_below}
 
-pub some_none : (t : ℕ → Bool) → some_below t 0 ≡ false
+-- one of the first i elements passes
+pub some_below-take : {X : Type 0} (p : X → Bool) (xs : List X) (d : X) (i : ℕ) → i ≤ length xs → list_any p (take i xs) ≡ some_below (λ j. p (get_or xs j d)) i
 unfolding some_below
-some_none t = refl
-
-pub some_more : (t : ℕ → Bool) (k : ℕ) → some_below t k ≡ false → t k ≡ false → some_below t (k + 1) ≡ false
-unfolding some_below
-some_more t k before here = rw add-one (or_from _ _ before here)
-
-pub some_found : (t : ℕ → Bool) (j k : ℕ) → t j ≡ true → j < k → some_below t k ≡ true
-unfolding some_below
-some_found t j zero here lt = absurd (omega arith)
-some_found t j (suc k) here lt =
-    let before = some_found t j k here in
-    ⊎_elim (λ h. or_left _ _ (before h)) (λ h. let e : j ≡ k = omega arith in or_right _ _ (subst (λ i. t i ≡ true) e here)) (cases_lt j k)
+some_below-take p xs d zero h = refl
+some_below-take p xs d (suc k) h =
+    let more : take (suc k) xs ≡ take k xs ++ get_or xs k d ∷ [] = ap (λ m. take m xs) (sym (add-one k)) ∙ take_more xs k d (omega arith) in
+    ap (list_any p) more
+    ∙ list_any-append p (take k xs) _
+    ∙ ap (λ b. b || (p (get_or xs k d) || false)) (some_below-take p xs d k (omega arith))
+    ∙ ap (λ b. some_below (λ j. p (get_or xs j d)) k || b) (or-false _)
 
 pub first_none : {X : Type 0} (f : ℕ → Option X) → first_of f 0 ≡ None
 unfolding first_of

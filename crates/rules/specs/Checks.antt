@@ -4,16 +4,18 @@ use Rattle.rules.specs.declared.kinds.Side.{Side}
 use Rattle.rules.specs.declared.kinds.Side.TheVariants.{Even}
 use Rattle.rules.specs.declared.kinds.Kind.{Kind}
 use Rattle.rules.specs.declared.kinds.Kind.TheVariants.{Clause, Parity}
+use Rattle.rules.specs.declared.kinds.NoSide.{NoSide}
 use Rattle.rules.specs.declared.kinds.RawKind.{RawKind}
 use Rattle.rules.specs.declared.kinds.RawKind.TheVariants as raw
 use Rattle.rules.specs.declared.faults.Layer.{Layer}
 use Rattle.rules.specs.declared.faults.Cause.TheVariants.{Width, Entry}
 use Rattle.rules.specs.declared.faults.Fault.{Fault}
 use Rattle.rules.specs.declared.faults.Misfit.{Misfit}
+use Rattle.rules.specs.First.{on_ok}
 use Rattle.rules.specs.Constraints.{Constraint}
 use Rattle.rules.specs.Lawful.{width_fits}
 use Rattle.rules.specs.Faults.{fault}
-use Rattle.rules.specs.Entries.{side_numbered, built}
+use Rattle.rules.specs.Entries.{side_numbered, side_or_none, built}
 
 -- what is wrong with a rule, as a fault of a layer: the place is the index of the entry
 abbrev pub as_fault : Layer → ℕ → Misfit → Fault
@@ -33,6 +35,11 @@ parity_with None = None
 abbrev pub kind_of : RawKind → Option Kind
 kind_of raw.Clause = Some Clause
 kind_of (raw.Parity number) = parity_with (side_numbered number)
+
+-- the same, or the number that is no side
+abbrev pub kind_or_none : RawKind → Result Kind NoSide
+kind_or_none raw.Clause = Ok Clause
+kind_or_none (raw.Parity number) = on_ok Parity (side_or_none number)
 
 -- the width fits the kind, whatever the number for its side
 abbrev pub raw_width_fits : RawKind → ℕ → Bool

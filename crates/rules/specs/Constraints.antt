@@ -41,6 +41,11 @@ abbrev pub is_odd : Side → Bool
 is_odd Even = false
 is_odd Odd = true
 
+-- the side of the rules that ask for an odd number, or for an even one
+abbrev pub side_when : Bool → Side
+side_when true = Odd
+side_when false = Even
+
 -- s keeps the rule: a literal of a clause is kept, or the number of switches of a parity rule that are on is of its side
 abbrev pub kept : Setting → Constraint → Bool
 kept s (clause ls) = some_kept s ls

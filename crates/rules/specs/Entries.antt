@@ -3,11 +3,12 @@ use Rattle.std.specs.Prelude.{ℕ, suc, Bool, true, false, cond, not, ◌&&◌, 
 use Rattle.rules.specs.declared.literals.Literal.{Literal}
 use Rattle.rules.specs.declared.kinds.Side.{Side}
 use Rattle.rules.specs.declared.kinds.Side.TheVariants.{Even, Odd}
+use Rattle.rules.specs.declared.kinds.NoSide.{NoSide}
 use Rattle.rules.specs.declared.kinds.Kind.{Kind}
 use Rattle.rules.specs.declared.kinds.Kind.TheVariants.{Clause, Parity}
 use Rattle.rules.specs.declared.faults.Cause.TheVariants.{Width, Entry, Repeat}
 use Rattle.rules.specs.declared.faults.Misfit.{Misfit}
-use Rattle.rules.specs.First.{first_of, some_below, unless, verdict}
+use Rattle.rules.specs.First.{first_of, some_below, unless, verdict, or_error}
 use Rattle.rules.specs.Constraints.{Constraint, clause, parity, switch_of}
 use Rattle.rules.specs.Lawful.{width_fits, inside}
 use Rattle.rules.specs.Faults.{misfit}
@@ -60,3 +61,7 @@ built k n es = verdict (rule_misfit k n es) (rule_of k es)
 -- side 0 is even, side 1 is odd
 abbrev pub side_numbered : ℕ → Option Side
 side_numbered b = cond (b == 0) (Some Even) (cond (b == 1) (Some Odd) None)
+
+-- the same, or the number that is none
+abbrev pub side_or_none : ℕ → Result Side NoSide
+side_or_none b = or_error (side_numbered b) (record { 0 = b })

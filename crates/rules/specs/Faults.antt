@@ -1,8 +1,9 @@
 -- The numbers of the causes for which something is refused.
-use Rattle.std.specs.Prelude.{ℕ}
+use Rattle.std.specs.Prelude.{ℕ, List, ◌++◌, codes, decimal}
 use Rattle.rules.specs.declared.faults.Cause.{Cause}
 use Rattle.rules.specs.declared.faults.Cause.TheVariants.{Head, SwitchCount, Form, Width, Entry, Repeat, RuleCount, ShortBuffer, PlacedTooHigh, PairTooLong, ParityTooWide, TooManyRecords, MarginFull, NothingFound}
 use Rattle.rules.specs.declared.faults.Layer.{Layer}
+use Rattle.rules.specs.declared.faults.Layer.TheVariants.{File, Table, Pile, Session, Writer}
 use Rattle.rules.specs.declared.faults.Fault.{Fault}
 use Rattle.rules.specs.declared.faults.Misfit.{Misfit}
 
@@ -30,3 +31,16 @@ fault l c r p = record { layer = l; cause = c; «record» = r; place = p }
 -- what is wrong with one rule, and at which of its entries
 abbrev pub misfit : Cause → ℕ → Misfit
 misfit c i = record { cause = c; index = i }
+
+-- the word for a layer
+abbrev pub layer_word : Layer → List ℕ
+layer_word File = codes "file"
+layer_word Table = codes "table"
+layer_word Pile = codes "pile"
+layer_word Session = codes "session"
+layer_word Writer = codes "writer"
+
+-- refused NUMBER LAYER RECORD PLACE
+abbrev pub refusal_text : Fault → List ℕ
+refusal_text f =
+    codes "refused " ++ (decimal (number f.cause) ++ (codes " " ++ (layer_word f.layer ++ (codes " " ++ (decimal f.«record» ++ (codes " " ++ decimal f.place))))))

@@ -30,3 +30,8 @@ verdict (Some f) x = Err f
 abbrev pub on_ok : {X Y F : Type 0} → (X → Y) → Result X F → Result Y F
 on_ok f (Ok x) = Ok (f x)
 on_ok f (Err e) = Err e
+
+-- a value, or the error that is told where there is none
+abbrev pub or_error : {X E : Type 0} → Option X → E → Result X E
+or_error (Some x) e = Ok x
+or_error None e = Err e

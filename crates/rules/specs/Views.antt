@@ -3,8 +3,7 @@ use Rattle.std.specs.Prelude.{ℕ, List, take, Option}
 use Rattle.std.specs.List.{slice_get}
 use Rattle.rules.specs.declared.literals.Literal.{Literal}
 use Rattle.rules.specs.declared.clauses.Clause as code_clause
-use Rattle.rules.specs.declared.parities.Parity as code_parity
-use Rattle.rules.specs.declared.rows.Row.{Row}
+use Rattle.rules.specs.declared.parities.ParityRule.{ParityRule}
 use Rattle.rules.specs.declared.rule.Rule.{Rule}
 use Rattle.rules.specs.declared.rule.Rule.TheVariants.{Clause, Parity}
 use Rattle.rules.specs.Constraints.{Constraint, clause, parity, entries}
@@ -14,7 +13,7 @@ abbrev pub literals_of : code_clause.Clause → List Literal
 literals_of c = take c.width c.literals
 
 -- the switches of a parity rule
-abbrev pub switches_of : code_parity.Parity → List ℕ
+abbrev pub switches_of : {N : ℕ} → ParityRule N → List ℕ
 switches_of p = take p.width p.switches
 
 -- the rule that a value of the code is
@@ -23,8 +22,8 @@ constraint (Clause c) = clause (literals_of c)
 constraint (Parity p) = parity (switches_of p) p.side
 
 -- a row is a parity rule
-abbrev pub row_constraint : Row → Constraint
-row_constraint r = parity (take r.width r.switches) r.side
+abbrev pub row_constraint : {N : ℕ} → ParityRule N → Constraint
+row_constraint r = parity (switches_of r) r.side
 
 -- a clause is a rule
 abbrev pub clause_constraint : code_clause.Clause → Constraint

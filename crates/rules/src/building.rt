@@ -1,5 +1,6 @@
 // A rule built from the entries that came from outside, or what is wrong with it.
-ghost use Rattle.std.specs.Prelude.{◌≡◌, ◌≤◌, ◌&&◌, map, length, IfOk, nat_le};
+ghost use Rattle.std.specs.Prelude.{◌≡◌, ◌≤◌, ◌&&◌, map, length, IfOk, nat_eq, nat_le};
+ghost use Rattle.std.specs.List.{list_any};
 ghost use Rattle.rules.specs.First.{verdict, on_ok};
 ghost use Rattle.rules.specs.Lawful.{width_fits, Lawful};
 ghost use Rattle.rules.specs.Entries.{literal, named_switch, literal_fits, named, entries_misfit, built};
@@ -8,14 +9,14 @@ ghost use Rattle.rules.specs.Views.{literals_of, switches_of, constraint};
 use crate::clauses::Clause;
 use crate::faults::{Cause, Misfit};
 use crate::kinds::{Kind, RuleKind, Side};
-use crate::literals::{Literal, literal_of};
+use crate::literals::Literal;
 use crate::parities::Parity;
 use crate::rule::Rule;
 
 fn fits<K: RuleKind>(width: usize) -> bool
-    ensures { result ≡ (nat_le 1 width && nat_le width K.RuleKind.widest) }
+    ensures { result ≡ (nat_le 1 width && nat_le width K.RuleKind.WIDTH) }
 {
-    1 <= width && width <= K::limit()
+    1 <= width && width <= K::WIDTH
 }
 
 // The width is one that a rule of the kind may have.
@@ -40,31 +41,31 @@ fn is_fitting(kind: Kind, n: u16, literal: Literal) -> bool
     }
 }
 
-// An entry before the i-th names the switch.
-fn is_named(entries: &[i16], switch: u16, i: usize) -> bool
-    requires { i ≤ length entries.now }
-    ensures { result ≡ named entries.now switch i }
+fn names(entry: i16, switch: u16) -> bool
+    ensures { result ≡ nat_eq (named_switch entry) switch }
 {
-    for j in 0..i {
-        if literal_of(entries[j]).switch == switch {
-            return true;
-        }
-    }
-    false
+    Literal::from(entry).switch == switch
+}
+
+// One of the entries names the switch.
+fn is_named(entries: &[i16], switch: u16) -> bool
+    ensures { result ≡ list_any (λ e. nat_eq (named_switch e) switch) entries.now }
+{
+    entries.iter().any(|entry| names(*entry, switch))
 }
 
 fn check_entries(kind: Kind, n: u16, entries: &[i16]) -> Result<(), Misfit>
     ensures { result ≡ verdict (entries_misfit kind n entries.now) tt }
 {
     for (i, entry) in entries.iter().enumerate() {
-        let literal = literal_of(*entry);
+        let literal = Literal::from(*entry);
         if !is_fitting(kind, n, literal) {
             return Err(Misfit {
                 cause: Cause::Entry,
                 index: i,
             });
         }
-        if is_named(entries, literal.switch, i) {
+        if is_named(&entries[..i], literal.switch) {
             return Err(Misfit {
                 cause: Cause::Repeat,
                 index: i,
@@ -78,17 +79,11 @@ fn clause_of(entries: &[i16]) -> Clause
     requires { length entries.now ≤ 8 }
     ensures { literals_of result ≡ map literal entries.now }
 {
-    let mut literals = [Literal {
-        switch: 0,
-        on: false,
-    }; 8];
-    for (i, entry) in entries.iter().enumerate() {
-        literals[i] = literal_of(*entry);
+    let mut clause = Clause::new();
+    for entry in entries {
+        clause.push(Literal::from(*entry));
     }
-    Clause {
-        literals,
-        width: entries.len(),
-    }
+    clause
 }
 
 fn parity_of(entries: &[i16], side: Side) -> Parity
@@ -96,15 +91,11 @@ fn parity_of(entries: &[i16], side: Side) -> Parity
     ensures switches { switches_of result ≡ map named_switch entries.now }
     ensures side { result.side ≡ side }
 {
-    let mut switches = [0; 16];
-    for (i, entry) in entries.iter().enumerate() {
-        switches[i] = literal_of(*entry).switch;
+    let mut parity = Parity::on_none(side);
+    for entry in entries {
+        parity.push(Literal::from(*entry).switch);
     }
-    Parity {
-        switches,
-        width: entries.len(),
-        side,
-    }
+    parity
 }
 
 // The rule of the kind over n switches with these entries, or the first thing wrong: its width, then its entries from the first to the last.

@@ -2,11 +2,11 @@
 ghost use Rattle.std.specs.Prelude.{◌≡◌};
 ghost use Rattle.rules.specs.First.{on_ok};
 ghost use Rattle.rules.specs.Views.{constraint};
-ghost use Rattle.rules.specs.Checks.{checked, raw_width_fits, kind_of};
+ghost use Rattle.rules.specs.Checks.{checked, raw_width_fits, kind_or_none};
 
 use crate::building::{build_rule, width_fits};
 use crate::faults::{Cause, Fault, Layer};
-use crate::kinds::{Kind, RawKind, Side, side_of};
+use crate::kinds::{Kind, NoSide, RawKind, Side};
 use crate::rule::Rule;
 
 fn raw_width_fits(kind: RawKind, width: usize) -> bool
@@ -18,15 +18,17 @@ fn raw_width_fits(kind: RawKind, width: usize) -> bool
     }
 }
 
-fn kind_of(kind: RawKind) -> Option<Kind>
-    ensures { result ≡ kind_of kind }
-{
-    match kind {
-        RawKind::Clause => Some(Kind::Clause),
-        RawKind::Parity(number) => match side_of(number) {
-            Some(side) => Some(Kind::Parity(side)),
-            None => None,
-        },
+// The kind that is meant, where the number of a parity rule is one of a side.
+impl TryFrom<RawKind> for Kind {
+    type Error = NoSide;
+
+    ghost try_from_gives = { λ kind r. r ≡ kind_or_none kind };
+
+    fn try_from(kind: RawKind) -> Result<Kind, NoSide> {
+        match kind {
+            RawKind::Clause => Ok(Kind::Clause),
+            RawKind::Parity(number) => Ok(Kind::Parity(Side::try_from(number)?)),
+        }
     }
 }
 
@@ -40,29 +42,15 @@ pub fn check_rule(
 ) -> Result<Rule, Fault>
     ensures { on_ok constraint result ≡ checked layer «record» n kind entries.now }
 {
-    if !raw_width_fits(kind, entries.len()) {
-        return Err(Fault {
-            layer,
-            cause: Cause::Width,
-            record,
-            place: 0,
-        });
-    }
-    let Some(kind) = kind_of(kind) else {
-        return Err(Fault {
-            layer,
-            cause: Cause::Entry,
-            record,
-            place: 0,
-        });
+    let refuse = |cause: Cause, place: usize| Fault {
+        layer,
+        cause,
+        record,
+        place,
     };
-    match build_rule(kind, n, entries) {
-        Ok(rule) => Ok(rule),
-        Err(misfit) => Err(Fault {
-            layer,
-            cause: misfit.cause,
-            record,
-            place: misfit.index,
-        }),
+    if !raw_width_fits(kind, entries.len()) {
+        return Err(refuse(Cause::Width, 0));
     }
+    let kind = Kind::try_from(kind).map_err(|_none| refuse(Cause::Entry, 0))?;
+    build_rule(kind, n, entries).map_err(|misfit| refuse(misfit.cause, misfit.index))
 }

@@ -1,10 +1,10 @@
 // Clauses: at least one of their literals is kept.
-ghost use Rattle.std.specs.Prelude.{◌≤◌};
+ghost use Rattle.std.specs.Prelude.{◌≡◌, ◌+◌, ◌<◌, ◌≤◌, [], ◌∷◌, ◌++◌};
 
 use crate::kinds::RuleKind;
 use crate::literals::Literal;
 
-// The literals are the first `width` of the array; what lies behind them means nothing.
+// The literals are the first `width` of the array; what lies behind them means nothing. The clause is a value of fixed size, as a parity rule is.
 #[derive(Clone, Copy)]
 pub struct Clause {
     pub literals: [Literal; 8],
@@ -12,12 +12,43 @@ pub struct Clause {
     ghost fits: { width ≤ 8 },
 }
 
+impl Clause {
+    ghost use Rattle.rules.specs.Views.{literals_of};
+
+    // The clause of no literals yet.
+    pub fn new() -> Clause
+        ensures none { literals_of result ≡ [] }
+        ensures width { result.width ≡ 0 }
+    {
+        Clause {
+            literals: [Literal {
+                switch: 0,
+                on: false,
+            }; 8],
+            width: 0,
+        }
+    }
+
+    // The literals of which one is to be kept.
+    pub fn literals(&self) -> &[Literal]
+        ensures { result.now ≡ literals_of self.now }
+    {
+        &self.literals[0..self.width]
+    }
+
+    // One more literal.
+    pub fn push(&mut self, literal: Literal)
+        requires { self.old.width < 8 }
+        ensures more { literals_of self.new ≡ literals_of self.old ++ literal ∷ [] }
+        ensures width { self.new.width ≡ self.old.width + 1 }
+    {
+        self.literals[self.width] = literal;
+        self.width += 1;
+    }
+}
+
 impl RuleKind for Clause {
     const WIDTH: usize = 8;
 
-    ghost widest = { 8 };
-
-    fn limit() -> usize {
-        Self::WIDTH
-    }
+    ghost WIDTH = { 8 };
 }

@@ -1,6 +1,8 @@
 // Why input or a call is refused.
-ghost use Rattle.std.specs.Prelude.{◌≡◌};
-ghost use Rattle.rules.specs.Faults.{number};
+ghost use Rattle.std.specs.Prelude.{◌≡◌, Some};
+ghost use Rattle.rules.specs.Faults.{number, layer_word, fault, refusal_text};
+
+use std::fmt;
 
 // Where the fault was found.
 #[derive(Clone, Copy, PartialEq, Eq, Debug)]
@@ -10,6 +12,35 @@ pub enum Layer {
     Pile,
     Session,
     Writer,
+}
+
+// The word for a layer.
+impl fmt::Display for Layer {
+    ghost output = { λ l. Some (layer_word l) };
+
+    fn fmt<W: fmt::Write>(&self, f: &mut fmt::Formatter<W>) -> fmt::Result {
+        f.write_str(match self {
+            Layer::File => "file",
+            Layer::Table => "table",
+            Layer::Pile => "pile",
+            Layer::Session => "session",
+            Layer::Writer => "writer",
+        })
+    }
+}
+
+impl Layer {
+    // The fault of the layer: its cause, the rules before it, and its place.
+    pub fn fault(self, cause: Cause, record: u16, place: usize) -> Fault
+        ensures { result ≡ fault self cause «record» place }
+    {
+        Fault {
+            layer: self,
+            cause,
+            record,
+            place,
+        }
+    }
 }
 
 // What is at fault; docs/refusals.md says when each is given.
@@ -31,12 +62,12 @@ pub enum Cause {
     NothingFound,
 }
 
-impl Cause {
-    // The number by which a refusal tells its cause.
-    pub fn number(self) -> u8
-        ensures { result ≡ number self }
-    {
-        match self {
+// The number by which a refusal tells its cause.
+impl From<Cause> for u8 {
+    ghost from_gives = { λ cause n. n ≡ number cause };
+
+    fn from(cause: Cause) -> u8 {
+        match cause {
             Cause::Head => 1,
             Cause::SwitchCount => 2,
             Cause::Form => 3,
@@ -64,8 +95,22 @@ pub struct Fault {
     pub place: usize,
 }
 
+// The text of a refusal: its number, its layer, its record and its place.
+impl fmt::Display for Fault {
+    ghost output = { λ f. Some (refusal_text f) };
+
+    fn fmt<W: fmt::Write>(&self, f: &mut fmt::Formatter<W>) -> fmt::Result {
+        let number = u8::from(self.cause);
+        write!(
+            f,
+            "refused {number} {} {} {}",
+            self.layer, self.record, self.place
+        )
+    }
+}
+
 // What is wrong with one rule: the cause, and the index of the entry at fault (0 for a width).
-#[derive(Clone, Copy)]
+#[derive(Clone, Copy, PartialEq, Eq, Debug)]
 pub struct Misfit {
     pub cause: Cause,
     pub index: usize,

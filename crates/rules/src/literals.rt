@@ -10,11 +10,13 @@ pub struct Literal {
 }
 
 // The literal that an entry names: v is kept by v on, -v by v off. The entry 0 names no switch, and comes out as the switch 0.
-pub fn literal_of(entry: i16) -> Literal
-    ensures { result ≡ literal entry }
-{
-    Literal {
-        switch: entry.unsigned_abs(),
-        on: entry >= 0,
+impl From<i16> for Literal {
+    ghost from_gives = { λ entry l. l ≡ literal entry };
+
+    fn from(entry: i16) -> Literal {
+        Literal {
+            switch: entry.unsigned_abs(),
+            on: entry >= 0,
+        }
     }
 }

@@ -1,23 +1,58 @@
 // Parity rules: an even or an odd number of their switches is on.
-ghost use Rattle.std.specs.Prelude.{◌≤◌};
+ghost use Rattle.std.specs.Prelude.{◌≡◌, ◌+◌, ◌<◌, ◌≤◌, [], ◌∷◌, ◌++◌};
 
 use crate::kinds::{RuleKind, Side};
 
-// The switches are the first `width` of the array; what lies behind them means nothing.
+// A rule of at most N switches. They are the first `width` of the array; what lies behind them means nothing. The rule is a value of fixed size, so that it can be copied and be put where memory was taken before.
 #[derive(Clone, Copy)]
-pub struct Parity {
-    pub switches: [u16; 16],
+pub struct ParityRule<const N: usize> {
+    pub switches: [u16; N],
     pub width: usize,
     pub side: Side,
-    ghost fits: { width ≤ 16 },
+    ghost fits: { width ≤ N },
+}
+
+// A parity rule of a sheet.
+pub type Parity = ParityRule<16>;
+
+impl<const N: usize> ParityRule<N> {
+    ghost use Rattle.rules.specs.Views.{switches_of};
+
+    // The rule on no switches yet.
+    pub fn on_none(side: Side) -> ParityRule<N>
+        ensures none { switches_of result ≡ [] }
+        ensures width { result.width ≡ 0 }
+        ensures side { result.side ≡ side }
+    {
+        ParityRule {
+            switches: [0; N],
+            width: 0,
+            side,
+        }
+    }
+
+    // The switches that the rule is on.
+    pub fn switches(&self) -> &[u16]
+        ensures { result.now ≡ switches_of self.now }
+    {
+        let all = &self.switches[..];
+        &all[0..self.width]
+    }
+
+    // One more switch.
+    pub fn push(&mut self, switch: u16)
+        requires { self.old.width < N }
+        ensures more { switches_of self.new ≡ switches_of self.old ++ switch ∷ [] }
+        ensures width { self.new.width ≡ self.old.width + 1 }
+        ensures side { self.new.side ≡ self.old.side }
+    {
+        self.switches[self.width] = switch;
+        self.width += 1;
+    }
 }
 
 impl RuleKind for Parity {
     const WIDTH: usize = 16;
 
-    ghost widest = { 16 };
-
-    fn limit() -> usize {
-        Self::WIDTH
-    }
+    ghost WIDTH = { 16 };
 }

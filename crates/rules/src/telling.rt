@@ -23,23 +23,11 @@ impl Rule {
         ensures { result ≡ entry_at (constraint self.now) j }
     {
         match self {
-            Rule::Clause(clause) => {
-                if j < clause.width {
-                    Some(clause.literals[j])
-                } else {
-                    None
-                }
-            }
-            Rule::Parity(parity) => {
-                if j < parity.width {
-                    Some(Literal {
-                        switch: parity.switches[j],
-                        on: true,
-                    })
-                } else {
-                    None
-                }
-            }
+            Rule::Clause(clause) => clause.literals().get(j).copied(),
+            Rule::Parity(parity) => parity.switches().get(j).map(|switch| Literal {
+                switch: *switch,
+                on: true,
+            }),
         }
     }
 }

@@ -3,7 +3,7 @@ use Rattle.std.proofs.lemmas.List.{take_all}
 use Rattle.rules.specs.declared.literals.Literal.{Literal}
 use Rattle.rules.specs.Constraints.{switch_of}
 use Rattle.rules.proofs.Places.{fill_more, fill_all}
-use Rattle.parity_theory.specs.Equations.{side_when}
+use Rattle.rules.specs.Constraints.{side_when}
 use Rattle.parity_theory.specs.Recovering.{odd_negations}
 use Rattle.parity.proofs.Conversions.{odd_more}
 use Rattle.parity.proofs.conversion.parity_of.Goals as goal

@@ -1,6 +1,7 @@
-use Rattle.std.proofs.Common.{◌≡◌, map, length, take}
+use Rattle.std.proofs.Common.{◌≡◌, map, take}
 use Rattle.rules.specs.Entries.{literal}
+use Rattle.rules.specs.Views.{literals_of}
 use Rattle.rules.proofs.building.clause_of.Given as goal
 
-abbrev pub invariant-loop-i : goal.invariant-loop-i
-invariant-loop-i l = (length l.literals ≡ 8) × (take l.i l.literals ≡ map literal (take l.i l.entries))
+abbrev pub invariant-loop-entry : goal.invariant-loop-entry
+invariant-loop-entry l = (l.clause.width ≡ l.entry-index) × (literals_of l.clause ≡ map literal (take l.entry-index l.entries))
