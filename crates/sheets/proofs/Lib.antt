@@ -1,2 +1,4 @@
+pub mod Gathered
 pub mod Items
+pub mod Lefts
 pub mod Tabled

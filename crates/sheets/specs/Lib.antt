@@ -1,4 +1,5 @@
 pub mod Meaning
+pub mod Left
 pub mod Tables
 pub mod Views
 pub mod Piles

@@ -4,6 +4,7 @@
 pub mod pair;
 pub mod placing;
 pub mod raw;
+pub mod rules_of;
 pub mod sheet;
 pub mod table;
 pub mod tabling;
