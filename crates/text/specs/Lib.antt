@@ -1,2 +1,3 @@
 pub mod Refusals
+pub mod Joined
 pub mod Lent

@@ -1,19 +1,15 @@
--- The line that tells a refusal.
-use Rattle.std.specs.Prelude.{ℕ, List, ◌++◌, codes, decimal}
-use Rattle.rules.specs.declared.faults.Layer.{Layer}
-use Rattle.rules.specs.declared.faults.Layer.TheVariants.{File, Table, Pile, Session, Writer}
+-- The line that tells a refusal, and the text of an error.
+use Rattle.std.specs.Prelude.{ℕ, List, ◌++◌, codes}
 use Rattle.rules.specs.declared.faults.Fault.{Fault}
-use Rattle.rules.specs.Faults.{number}
-
--- the word for a layer
-abbrev pub layer_word : Layer → List ℕ
-layer_word File = codes "file"
-layer_word Table = codes "table"
-layer_word Pile = codes "pile"
-layer_word Session = codes "session"
-layer_word Writer = codes "writer"
+use Rattle.rules.specs.Faults.{refusal_text}
+use Rattle.text.specs.declared.errors.TextError.{TextError}
+use Rattle.text.specs.declared.errors.TextError.TheVariants.{Refused, Memory}
 
 -- refused NUMBER LAYER RECORD PLACE, and a line's end
 abbrev pub refused_line : Fault → List ℕ
-refused_line f =
-    codes "refused " ++ (decimal (number f.cause) ++ (codes " " ++ (layer_word f.layer ++ (codes " " ++ (decimal f.«record» ++ (codes " " ++ (decimal f.place ++ codes "\n")))))))
+refused_line f = refusal_text f ++ codes "\n"
+
+-- the text of an error
+abbrev pub error_text : TextError → List ℕ
+error_text (Refused f) = refusal_text f
+error_text Memory = codes "want of memory"
