@@ -1,72 +1,26 @@
 // The rules of a sheet, as values.
-ghost use Rattle.std.specs.Prelude.{◌≡◌, ◌+◌, ◌<◌, [], ◌∷◌, ◌++◌, Some};
+ghost use Rattle.std.specs.Prelude.{◌≡◌, Some};
 ghost use Rattle.std.specs.List.{slice_get};
 ghost use Rattle.std.specs.Option.{option_map};
 ghost use Rattle.std.specs.Iterator.{YieldsFirstBy, item_count};
-ghost use Rattle.rules.specs.Constraints.{parity};
-ghost use Rattle.rules.specs.Views.{literals_of, switches_of, clause_constraint, constraint};
+ghost use Rattle.rules.specs.Views.{clause_constraint, row_constraint, constraint};
 ghost use Rattle.sheets.specs.Meaning.{told_kind};
 ghost use Rattle.sheets.specs.Left.{rules_left};
 
 use crate::sheet::Sheet;
 use rules::clauses::Clause;
 use rules::kinds::{Kind, Side};
-use rules::literals::Literal;
 use rules::parities::Parity;
 use rules::rule::Rule;
-
-fn new() -> Clause
-    ensures none { literals_of result ≡ [] }
-    ensures width { result.width ≡ 0 }
-{
-    Clause {
-        literals: [Literal {
-            switch: 0,
-            on: false,
-        }; 8],
-        width: 0,
-    }
-}
-
-fn on_none(side: Side) -> Parity
-    ensures none { switches_of result ≡ [] }
-    ensures width { result.width ≡ 0 }
-    ensures side { result.side ≡ side }
-{
-    Parity {
-        switches: [0; 16],
-        width: 0,
-        side,
-    }
-}
-
-fn push(clause: &mut Clause, literal: Literal)
-    requires { clause.old.width < 8 }
-    ensures more { literals_of clause.new ≡ literals_of clause.old ++ literal ∷ [] }
-    ensures width { clause.new.width ≡ clause.old.width + 1 }
-{
-    clause.literals[clause.width] = literal;
-    clause.width += 1;
-}
-
-fn push_switch(parity: &mut Parity, switch: u16)
-    requires { parity.old.width < 16 }
-    ensures more { switches_of parity.new ≡ switches_of parity.old ++ switch ∷ [] }
-    ensures width { parity.new.width ≡ parity.old.width + 1 }
-    ensures side { parity.new.side ≡ parity.old.side }
-{
-    parity.switches[parity.width] = switch;
-    parity.width += 1;
-}
 
 // Rule i, which is a clause.
 fn clause_at<S: Sheet>(sheet: &S, i: usize) -> Clause
     requires { told_kind (S.Sheet.meaning sheet.now) i ≡ Some Kind.Clause }
     ensures { Some (clause_constraint result) ≡ slice_get (S.Sheet.meaning sheet.now).rules i }
 {
-    let mut clause = new();
+    let mut clause = Clause::new();
     while let Some(literal) = sheet.entry(i, clause.width) {
-        push(&mut clause, literal);
+        clause.push(literal);
     }
     clause
 }
@@ -74,11 +28,11 @@ fn clause_at<S: Sheet>(sheet: &S, i: usize) -> Clause
 // Rule i, which is a parity rule of the side.
 fn parity_at<S: Sheet>(sheet: &S, i: usize, side: Side) -> Parity
     requires { told_kind (S.Sheet.meaning sheet.now) i ≡ Some (Kind.Parity side) }
-    ensures { Some (parity (switches_of result) result.side) ≡ slice_get (S.Sheet.meaning sheet.now).rules i }
+    ensures { Some (row_constraint result) ≡ slice_get (S.Sheet.meaning sheet.now).rules i }
 {
-    let mut parity = on_none(side);
+    let mut parity = Parity::on_none(side);
     while let Some(literal) = sheet.entry(i, parity.width) {
-        push_switch(&mut parity, literal.switch);
+        parity.push(literal.switch);
     }
     parity
 }
