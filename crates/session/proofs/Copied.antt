@@ -1,5 +1,6 @@
 -- Copies, and the other calls as the definitions have them.
-use Rattle.std.proofs.Common.{◌≡◌, ℕ, zero, suc, ◌+◌, ◌<◌, Bool, true, false, cond, ltb, List, [], ◌∷◌, ◌++◌, map, length, get_or, take, drop, set, ℤ, Some, None, Ok, Err, Option, sym, refl, ap, ◌∙◌, add-one, arith}
+use Rattle.std.proofs.Common.{◌≡◌, ℕ, zero, suc, ◌+◌, ◌<◌, Bool, true, false, cond, ltb, List, [], ◌∷◌, ◌++◌, map, length, get_or, take, drop, set, ℤ, Some, None, Ok, Err, Option, ◌⊎◌, inl, inr, sym, refl, ap, ◌∙◌, add-one, arith}
+use Rattle.std.specs.Int.{from_bool}
 use Rattle.rules.specs.declared.kinds.RawKind.{RawKind}
 use Rattle.rules.specs.declared.faults.Layer.TheVariants as layer
 use Rattle.rules.specs.declared.faults.Cause.TheVariants.{ShortBuffer, NothingFound}
@@ -9,12 +10,19 @@ use Rattle.rules.specs.Checks.{checked}
 use Rattle.search_theory.specs.Tries.{Course, nothing, due}
 use Rattle.search_theory.specs.Tries as search
 use Rattle.search.specs.declared.progress.End.TheVariants as end
+use Rattle.search.specs.declared.progress.Progress.{Progress}
 use Rattle.search.specs.Ends.{end_of}
 use Rattle.session_theory.specs.Session.{Session, size, rules, Reply, course, setting_at, setting_of, when_found, overwritten, took, freedom_told, copied, Happens}
 use Rattle.session_theory.proofs.Laws.{goes_on}
 use Rattle.parity_theory.specs.Reducing.{freedom}
 use Rattle.session_theory.specs.Session as theory
-use Rattle.session.specs.declared.ends.Settled.{Settled}
+use Rattle.session.specs.declared.phases.Phase.{Phase}
+use Rattle.session.specs.declared.phases.Phase.TheVariants as phase
+use Rattle.session.specs.Phases.{Tells, standing_of}
+use Rattle.search.specs.declared.search.Search.{Search}
+use Rattle.search.specs.Searches.{course_of}
+use Rattle.rules.specs.Constraints.{Constraint}
+use Rattle.session.specs.declared.ends.Setting.{Setting}
 use Rattle.session.specs.Ends.{settle_entry}
 use Rattle.session.specs.Calls.{Went, Admitted, GoesOn}
 
@@ -27,16 +35,28 @@ overwritten_more vs old i lt room = rw add-one (by vs old i lt room)
     by (v ∷ vs) (o ∷ old) zero lt room = refl
     by (v ∷ vs) (o ∷ old) (suc i) lt room = ap (λ l. bit v ∷ l) (by vs old i (omega arith) (omega arith))
 
+-- a value as a byte
+pub byte_bit : (on : Bool) → from_bool on ≡ bit on
+byte_bit true = refl
+byte_bit false = refl
+
 -- what the end of the search says of its setting
-pub spent_none : (c : Course) → end_of c ≡ end.Spent → setting_at c ≡ None
+spent_none : (c : Course) → end_of c ≡ end.Spent → setting_at c ≡ None
 spent_none (search.found vs) h = let z : ◌≡◌ {A = ℕ} 0 1 = cc in absurd (omega arith)
 spent_none nothing h = refl
 spent_none (due ts) h = refl
 
-pub found_some : (c : Course) → end_of c ≡ end.Found → (vs : List Bool) × (c ≡ search.found vs)
+pub found_some : (c : Course) → end_of c ≡ end.Found tt → (vs : List Bool) × (c ≡ search.found vs)
 found_some (search.found vs) h = (vs, refl)
 found_some nothing h = let z : ◌≡◌ {A = ℕ} 0 1 = cc in absurd (omega arith)
 found_some (due ts) h = let z : ◌≡◌ {A = ℕ} 0 1 = cc in absurd (omega arith)
+
+-- unless a setting is found there is none
+pub none_unless_found : (n : ℕ) (rules : List Constraint) (p : Phase) (s : Search) → (p ≡ phase.Fresh) ⊎ ((p ≡ phase.Underway) ⊎ (p ≡ phase.None)) → Tells p n rules s → setting_of (standing_of p (course_of s)) ≡ None
+none_unless_found n rules phase.Fresh s is t = refl
+none_unless_found n rules phase.Underway s is t = spent_none (course_of s) t.ends
+none_unless_found n rules phase.Found s is t = elim is [ inl e ↦ cc | inr f ↦ elim f [ inl e ↦ cc | inr e ↦ cc ] ]
+none_unless_found n rules phase.None s is t = refl
 
 module _ (s : Session) (old : List ℕ) where
   pub copy_short : ltb (length old) (size s) ≡ true → Happens s (copied old (Err (fault layer.Session ShortBuffer 0 0)) old) s
@@ -61,7 +81,7 @@ pub take_happens : (s t : Session) (kind : RawKind) (es : List ℤ) (r : Reply) 
 unfolding Happens
 take_happens s t kind es r a = (a.replies, a.leaves)
 
-pub settle_happens : (s t : Session) (b : ℕ) (r : Settled) → Went s (course s) b r t → Happens s (settle_entry b r) t
+pub settle_happens : (s t : Session) (b : ℕ) (r : Progress Setting) → Went s (course s) b r t → Happens s (settle_entry b r) t
 unfolding Happens
 settle_happens s t b r w = ((w.end, w.tries), w.leaves)
 

@@ -6,6 +6,7 @@ use mathlib.Core.Option.{none, some, is_set}
 use mathlib.Core.Option as core
 use native.Mathlib.Nat.{ℕ_set}
 use base.Stored.{Coded-set}
+use denote.Builtin.{unit}
 use std.HLevel.{retract_hlevel}
 use Rattle.rules.specs.Constraints.{Constraint}
 use Rattle.rules.proofs.Sets.{constraints_set}
@@ -47,10 +48,10 @@ module _ (n : ℕ) (rules : List Constraint) where
     same = option_set constraints_set _ _ x.same y.same i;
   }
 
-  stands_prop : (e : End) (s : Search) → IsProp (Stands e n rules s)
+  stands_prop : (e : End (Unit {0})) (s : Search) → IsProp (Stands e n rules s)
   stands_prop e s x y = λ i. record {
     over = over_prop s.system x.over y.over i;
-    ends = Coded-set end_row.coded _ _ x.ends y.ends i;
+    ends = Coded-set (end_row unit).coded _ _ x.ends y.ends i;
   }
 
   tells_prop : (p : Phase) (s : Search) → IsProp (Tells p n rules s)
@@ -65,7 +66,7 @@ module _ (n : ℕ) (rules : List Constraint) where
   pub underway_over : (p : Phase) (s : Search) → ∥ Tells p n rules s ∥₁ → p ≡ phase.Underway → Over n rules s.system
   underway_over p s h is = (subst (λ x. Tells x n rules s) is (tells_out p s h)).over
 
-  pub found_stands : (p : Phase) (s : Search) → ∥ Tells p n rules s ∥₁ → p ≡ phase.Found → Stands end.Found n rules s
+  pub found_stands : (p : Phase) (s : Search) → ∥ Tells p n rules s ∥₁ → p ≡ phase.Found → Stands (end.Found tt) n rules s
   found_stands p s h is = subst (λ x. Tells x n rules s) is (tells_out p s h)
 
   pub found_over : (p : Phase) (s : Search) → ∥ Tells p n rules s ∥₁ → p ≡ phase.Found → Over n rules s.system

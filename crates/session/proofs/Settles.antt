@@ -1,5 +1,5 @@
 -- What events do to a session.
-use Rattle.std.proofs.Common.{◌≡◌, ℕ, zero, suc, ◌≤◌, Bool, true, false, cond, ltb, List, [], ◌∷◌, ◌++◌, length, take, drop, ℤ, Some, None, Ok, Err, sym, refl, ap, ◌∙◌, subst, ap₂, arith}
+use Rattle.std.proofs.Common.{◌≡◌, ℕ, zero, suc, ◌≤◌, Bool, true, false, cond, ltb, List, [], ◌∷◌, ◌++◌, length, take, drop, Some, None, Ok, Err, sym, refl, ap, ◌∙◌, subst, ap₂, arith}
 use Rattle.std.proofs.lemmas.List.{take-append-drop, take_all, at_drop_all}
 use Rattle.rules.specs.declared.faults.Layer.TheVariants as layer
 use Rattle.rules.specs.declared.faults.Cause.TheVariants.{MarginFull}
@@ -26,19 +26,17 @@ use Rattle.session_theory.specs.Session.{searched, next_of, end_at, joined}
 use Rattle.session.specs.declared.phases.Phase.{Phase}
 use Rattle.session.specs.declared.phases.Phase.TheVariants as phase
 use Rattle.session.specs.declared.ends.Setting.{Setting}
-use Rattle.session.specs.declared.ends.Settled.{Settled}
 use Rattle.session.specs.declared.events.Event.{Event}
 use Rattle.session.specs.declared.events.Event.TheVariants.{Settle}
 use Rattle.session.specs.declared.events.Answer.TheVariants as answer
-use Rattle.session.specs.declared.ends.End.TheVariants as told
 use Rattle.session.specs.Phases.{Over, Tells, standing_of, phase_at}
 use Rattle.session.specs.Ends.{values_in, end_in}
 use Rattle.session.specs.Sessions.{session_from}
 use Rattle.session.specs.Calls.{Went, Admitted, Answers}
 
-pub gone_tells : (n : ℕ) (rules : List Constraint) (s : Search) (e : End) → Over n rules s.system → e ≡ end_of (course_of s) → Tells (phase_at e) n rules s
+pub gone_tells : (n : ℕ) (rules : List Constraint) (s : Search) (e : End (Unit {0})) → Over n rules s.system → e ≡ end_of (course_of s) → Tells (phase_at e) n rules s
 gone_tells n rules s end.Spent over is = record { over = over; ends = sym is }
-gone_tells n rules s end.Found over is = record { over = over; ends = sym is }
+gone_tells n rules s (end.Found x) over is = record { over = over; ends = sym is }
 gone_tells n rules s end.None over is = tt
 
 standing_at : (c : Course) → standing_of (phase_at (end_of c)) c ≡ searched c
@@ -53,8 +51,8 @@ module _ (n k : ℕ) (rules : List Constraint) (p : Phase) (c : Course) where
       ap (λ rs. next_in n (system n rs)) (take-append-drop k rules) ∙ ap₂ next_in (sym over.size) over.same
 
   pub went_on :
-      (held : System) → Over n rules held → (b : ℕ) (from to : Course) (progress : Progress) → WentOn (next_in held.switches (Some (rules_of held))) b from to progress →
-      (r : Settled) → end_in r.end ≡ end_at to → r.tries ≡ progress.tries → (q : Phase) → q ≡ phase_at progress.end → Went (session_from n rules k p c) from b r (session_from n rules k q to)
+      (held : System) → Over n rules held → (b : ℕ) (from to : Course) (progress : Progress (Unit {0})) → WentOn (next_in held.switches (Some (rules_of held))) b from to progress →
+      (r : Progress Setting) → end_in r.end ≡ end_at to → r.tries ≡ progress.tries → (q : Phase) → q ≡ phase_at progress.end → Went (session_from n rules k p c) from b r (session_from n rules k q to)
   went_on held over b from to progress went r ends made q is =
       let next = next_held held over in
       let same : to ≡ onward (next_of (session_from n rules k p c)) b from = went.course ∙ ap (λ f. onward f b from) (sym next) in
@@ -66,7 +64,7 @@ module _ (n k : ℕ) (rules : List Constraint) (p : Phase) (c : Course) where
       }
 
   -- where the parity rules contradict each other the search has ended
-  pub went_nowhere : rows n rules ≡ None → (b : ℕ) (d : Course) → Went (session_from n rules k p c) (begin n (system n rules)) b (record { end = told.None; tries = 0 }) (session_from n rules k phase.None d)
+  pub went_nowhere : rows n rules ≡ None → (b : ℕ) (d : Course) → Went (session_from n rules k p c) (begin n (system n rules)) b (record { end = end.None; tries = 0 }) (session_from n rules k phase.None d)
   went_nowhere h b d =
       let next = next_of (session_from n rules k p c) in
       let none : system n rules ≡ None = ap (with_rows (clauses rules)) h in
@@ -77,7 +75,7 @@ module _ (n k : ℕ) (rules : List Constraint) (p : Phase) (c : Course) where
       }
 
   -- the standing before it does not come in
-  pub went_same : (q : Phase) (d : Course) (from at : Course) (b : ℕ) (r : Settled) (t : theory.Session) → from ≡ at → Went (session_from n rules k q d) from b r t → Went (session_from n rules k p c) at b r t
+  pub went_same : (q : Phase) (d : Course) (from at : Course) (b : ℕ) (r : Progress Setting) (t : theory.Session) → from ≡ at → Went (session_from n rules k q d) from b r t → Went (session_from n rules k p c) at b r t
   went_same q d from at b r t e w = subst (λ x. Went (session_from n rules k p c) x b r t) e (record { end = w.end; tries = w.tries; leaves = w.leaves })
 
 -- one more rule behind the first k
@@ -116,14 +114,14 @@ refused_rule s f = record { replies = refl; leaves = refl }
 
 module _ (n k : ℕ) (rules : List Constraint) (p : Phase) (c : Course) where
   -- a fresh session begins over the rules that stand
-  pub fresh_went : p ≡ phase.Fresh → (b : ℕ) (r : Settled) (t : theory.Session) → Went (session_from n rules k p c) (begin n (system n rules)) b r t → Went (session_from n rules k p c) (theory.course (session_from n rules k p c)) b r t
+  pub fresh_went : p ≡ phase.Fresh → (b : ℕ) (r : Progress Setting) (t : theory.Session) → Went (session_from n rules k p c) (begin n (system n rules)) b r t → Went (session_from n rules k p c) (theory.course (session_from n rules k p c)) b r t
   fresh_went is b r t w =
       let at : begin n (system n rules) ≡ theory.course (session_from n rules k p c) =
       ap (λ rs. begin n (system n rs)) (sym (take-append-drop k rules)) ∙ sym (ap (λ x. theory.course_of n (take k rules ++ drop k rules) (standing_of x c)) is) in
       subst (λ x. Went (session_from n rules k p c) x b r t) at w
 
   -- one that has found a setting tells it again
-  pub found_again : p ≡ phase.Found → (vs : List Bool) → c ≡ found vs → (b : ℕ) (x : Setting) → values_in x ≡ vs → Went (session_from n rules k p c) (theory.course (session_from n rules k p c)) b (record { end = told.Found x; tries = 0 }) (session_from n rules k p c)
+  pub found_again : p ≡ phase.Found → (vs : List Bool) → c ≡ found vs → (b : ℕ) (x : Setting) → values_in x ≡ vs → Went (session_from n rules k p c) (theory.course (session_from n rules k p c)) b (record { end = end.Found x; tries = 0 }) (session_from n rules k p c)
   found_again is vs e b x same =
       let next = next_of (session_from n rules k p c) in
       let stands : standing_of p c ≡ searched (found vs) = ap (λ q. standing_of q c) is ∙ ap searched e in
@@ -134,5 +132,5 @@ module _ (n k : ℕ) (rules : List Constraint) (p : Phase) (c : Course) where
         leaves = ap (λ (y : theory.Standing). record { sheet = record { switches = n; rules = take k rules }; margin = drop k rules; standing = y }) (stands ∙ sym (ap (λ y. searched (onward next b y)) at));
       }
 
-pub answers_settle : (s t : theory.Session) (e : Event) (es : List ℤ) (b : ℕ) (r : Settled) → e ≡ Settle b → Went s (theory.course s) b r t → Answers s e es (answer.Settled r) t
-answers_settle s t e es b r is w = subst (λ x. Answers s x es (answer.Settled r) t) (sym is) w
+pub answers_settle : (s t : theory.Session) (e : Event) (b : ℕ) (r : Progress Setting) → e ≡ Settle b → Went s (theory.course s) b r t → Answers s e (answer.Settled r) t
+answers_settle s t e b r is w = subst (λ x. Answers s x (answer.Settled r) t) (sym is) w

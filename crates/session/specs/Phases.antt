@@ -27,7 +27,7 @@ pub record Over (n : ℕ) (rules : List Constraint) (held : System) : Type 0 whe
   pub same : system n rules ≡ Some (rules_of held)
 
 -- the search is over that system, and stands at such an end
-pub record Stands (e : End) (n : ℕ) (rules : List Constraint) (s : Search) : Type 0 where
+pub record Stands (e : End (Unit {0})) (n : ℕ) (rules : List Constraint) (s : Search) : Type 0 where
   pub over : Over n rules s.system
   pub ends : end_of (course_of s) ≡ e
 
@@ -35,7 +35,7 @@ pub record Stands (e : End) (n : ℕ) (rules : List Constraint) (s : Search) : T
 abbrev pub Tells : Phase → ℕ → List Constraint → Search → Type 0
 Tells phase.Fresh n rules s = Unit {0}
 Tells phase.Underway n rules s = Stands end.Spent n rules s
-Tells phase.Found n rules s = Stands end.Found n rules s
+Tells phase.Found n rules s = Stands (end.Found tt) n rules s
 Tells phase.None n rules s = Unit {0}
 
 -- the standing, as the definitions have it
@@ -46,7 +46,7 @@ standing_of phase.Found c = theory.searched c
 standing_of phase.None c = theory.searched nothing
 
 -- the standing at an end of the search
-abbrev pub phase_at : End → Phase
+abbrev pub phase_at : End (Unit {0}) → Phase
 phase_at end.Spent = phase.Underway
-phase_at end.Found = phase.Found
+phase_at (end.Found x) = phase.Found
 phase_at end.None = phase.None

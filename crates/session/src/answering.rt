@@ -16,7 +16,6 @@ ghost use Rattle.session.specs.Calls.{Went, Admitted, Answers};
 
 use crate::ends::{End, Settled};
 use crate::events::{Answer, Event};
-use crate::found::{end_with_setting, phase_at, setting_of};
 use crate::phases::Phase;
 use crate::refusals::refusal;
 use crate::restarting::restart;
@@ -58,9 +57,9 @@ impl Session {
         ensures { Went (session_of self.old) (course_of self.old.search) budget result (session_of self.new) }
     {
         let progress = self.search.go_on(budget);
-        self.standing = phase_at(progress.end);
+        self.standing = Phase::from(progress.end);
         Settled {
-            end: end_with_setting(&self.search, self.rules.switches, progress.end),
+            end: progress.end.map(|()| self.setting()),
             tries: progress.tries,
         }
     }
@@ -101,22 +100,20 @@ impl Session {
     fn admit(&mut self, kind: RawKind, entries: &[i16]) -> Result<(), Fault>
         ensures { Admitted (session_of self.old) (checked layer.Session 0 self.old.rules.switches kind entries.now) result (session_of self.new) }
     {
-        match check_rule(Layer::Session, 0, self.rules.switches, kind, entries) {
-            Ok(rule) => self.join_with_room(rule),
-            Err(fault) => Err(fault),
-        }
+        let rule = check_rule(Layer::Session, 0, self.rules.switches, kind, entries)?;
+        self.join_with_room(rule)
     }
 
-    // Changes the session as its standing and the event have it. Only a take looks at the entries.
-    pub(crate) fn answer(&mut self, event: Event, entries: &[i16]) -> Answer
-        ensures { Answers (session_of self.old) event entries.now result (session_of self.new) }
+    // Changes the session as its standing and the event have it.
+    pub(crate) fn answer(&mut self, event: Event) -> Answer
+        ensures { Answers (session_of self.old) event.entry result (session_of self.new) }
     {
         match (self.standing, event) {
-            (_, Event::Take(kind)) => Answer::Took(self.admit(kind, entries)),
+            (_, Event::Take(kind, entries)) => Answer::Took(self.admit(kind, entries)),
             (Phase::Fresh, Event::Settle(budget)) => Answer::Settled(self.begin(budget)),
             (Phase::Underway, Event::Settle(budget)) => Answer::Settled(self.go_on(budget)),
             (Phase::Found, Event::Settle(_budget)) => Answer::Settled(Settled {
-                end: End::Found(setting_of(&self.search, self.rules.switches)),
+                end: End::Found(self.setting()),
                 tries: 0,
             }),
             (Phase::None, Event::Settle(_budget)) => Answer::Settled(Settled {

@@ -6,11 +6,10 @@ ghost use Rattle.session.specs.Calls.{GoesOn};
 
 use crate::ends::Settled;
 use crate::events::{Answer, Event};
-use crate::found::setting_of;
 use crate::phases::Phase;
 use crate::refusals::refusal;
 use crate::session::Session;
-use crate::writing::write_setting;
+use crate::writing::write_values;
 use rules::faults::{Cause, Fault};
 use rules::kinds::RawKind;
 
@@ -20,9 +19,9 @@ impl Session {
         ensures happens { Happens (session_of self.old) (took kind entries.now result) (session_of self.new) }
         ensures lawful { GoesOn (session_of self.old) (took kind entries.now result) (session_of self.new) }
     {
-        match self.answer(Event::Take(kind), entries) {
+        match self.answer(Event::Take(kind, entries)) {
             Answer::Took(reply) => reply,
-            Answer::Settled(_settled) => unreachable(),
+            Answer::Settled(_settled) => unreachable!(),
         }
     }
 
@@ -39,8 +38,8 @@ impl Session {
         ensures happens { Happens (session_of self.old) (settle_entry budget result) (session_of self.new) }
         ensures lawful { GoesOn (session_of self.old) (settle_entry budget result) (session_of self.new) }
     {
-        match self.answer(Event::Settle(budget), &[]) {
-            Answer::Took(_reply) => unreachable(),
+        match self.answer(Event::Settle(budget)) {
+            Answer::Took(_reply) => unreachable!(),
             Answer::Settled(settled) => settled,
         }
     }
@@ -54,13 +53,11 @@ impl Session {
             return Err(refusal(Cause::ShortBuffer));
         }
         match self.standing {
-            Phase::Fresh => Err(refusal(Cause::NothingFound)),
-            Phase::Underway => Err(refusal(Cause::NothingFound)),
             Phase::Found => {
-                write_setting(out, &setting_of(&self.search, self.rules.switches));
+                write_values(out, self.setting().values());
                 Ok(())
             }
-            Phase::None => Err(refusal(Cause::NothingFound)),
+            Phase::Fresh | Phase::Underway | Phase::None => Err(refusal(Cause::NothingFound)),
         }
     }
 }

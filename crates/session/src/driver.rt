@@ -1,5 +1,5 @@
 // Any calls on a session over any sheet.
-ghost use Rattle.std.specs.Prelude.{◌≡◌, replicate, IfOk};
+ghost use Rattle.std.specs.Prelude.{IfOk};
 ghost use Rattle.session.specs.Sessions.{session_of};
 ghost use Rattle.session.specs.Drives.{Performs, Performed};
 
@@ -8,17 +8,6 @@ use crate::opening::open;
 use crate::session::Session;
 use sheets::sheet::Sheet;
 use std::alloc::{AllocError, Global};
-
-// So many bytes of value 0.
-fn zeros(heap: Global, length: usize) -> Result<Vec<u8>, AllocError>
-    ensures { IfOk result (λ v. v.items ≡ replicate length 0) }
-{
-    let mut bytes = Vec::with_capacity(heap, length)?;
-    for i in 0..length {
-        bytes.push_reserved(0);
-    }
-    Ok(bytes)
-}
 
 // One call. A copy is given a buffer of its own, which holds zeros at first.
 fn call_once(session: &mut Session, heap: Global, call: &Call) -> Result<Reply, AllocError>
@@ -29,7 +18,7 @@ fn call_once(session: &mut Session, heap: Global, call: &Call) -> Result<Reply, 
         Call::Freedom => Ok(Reply::Free(session.freedom())),
         Call::Settle(budget) => Ok(Reply::Settled(session.settle(*budget))),
         Call::Copy(length) => {
-            let mut bytes = zeros(heap, *length)?;
+            let mut bytes = vec![in heap; 0u8; *length]?;
             let reply = session.copy(bytes.as_mut_slice());
             Ok(Reply::Copied(reply, bytes))
         }

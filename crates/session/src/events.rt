@@ -3,10 +3,10 @@ use crate::ends::Settled;
 use rules::faults::Fault;
 use rules::kinds::RawKind;
 
-// A rule of the kind is to be taken, whose entries stand beside the event, or a settle with its budget.
+// A rule of the kind and the entries is to be taken, or a settle with its budget.
 #[derive(Clone, Copy)]
-pub enum Event {
-    Take(RawKind),
+pub enum Event<'a> {
+    Take(RawKind, &'a [i16]),
     Settle(u32),
 }
 

@@ -31,7 +31,7 @@ pub returns-in_ok-bytes-in-Copy : goal.returns-in_ok-bytes-in-Copy
 returns-in_ok-bytes-in-Copy c =
     let s = session_of c.args.session.now in
     let r = c.copy-reply.result in
-    let old = c.as_mut_slice.ensures.value ∙ c.in_ok-bytes-in-Copy.ensures in
+    let old = c.as_mut_slice.ensures.value ∙ c.in_ok-bytes-in-Copy.ensures.items_if_clones_equal (λ y e. e) in
     let new = c.copy-reply.new.out in
     one_performed s s c.args.call.now (Copy c.in-Copy.length) _ (copied c.as_mut_slice.result.now r new) c.in-Copy.is
     (ap₂ (λ a b. copied a r b) old (sym (take_at new _ c.in_ok-bytes-in-Copy.bytes.len (omega arith)))) c.copy-reply.ensures.happens

@@ -1,13 +1,10 @@
-use Rattle.std.proofs.Common.{vec_capacity, sym, refl, ap, ◌∙◌, subst, arith}
+use Rattle.std.proofs.Common.{◌≡◌, vec_capacity, sym, refl, ap, ◌∙◌, subst, arith, rules}
 use Rattle.parity.specs.Reductions.{standing_rules}
 use Rattle.search.specs.Searches.{course_of}
-use Rattle.session.specs.Phases.{Over, Tells}
+use Rattle.session.specs.Phases.{Over, Tells, phase_at}
 use Rattle.session.proofs.Settles.{gone_tells, went_on}
+use Rattle.session.proofs.Founds.{same_end_in}
 use Rattle.session.proofs.session.Session.go_on.Goals as goal
-
-pub end_with_setting-requires : goal.end_with_setting-requires
-end_with_setting-requires c =
-    record { size = ap (λ x. x.switches) c.go_on-progress.ensures.same ∙ c.requires.size; ends = c.go_on-progress.ensures.goes.end }
 
 pub invariant_of-self : goal.invariant_of-self
 invariant_of-self c =
@@ -27,12 +24,14 @@ invariant_of-self c =
       rows = omega (arith, s.rows, ap (λ x. vec_capacity x.rows) held);
       switches = s.switches;
       reduced = s.reduced;
-      searched = ∣ subst (λ p. Tells p n rules after) (sym c.phase_at-self.ensures) tells ∣₁;
+      searched = ∣ subst (λ p. Tells p n rules after) (sym c.from-self.ensures) tells ∣₁;
     }
 
 pub returns : goal.returns
 returns c =
     let s = c.args.self.now in
     let after = c.go_on-progress.new.self in
+    let size = ap (λ x. x.switches) c.go_on-progress.ensures.same ∙ c.requires.size in
+    let ends = same_end_in (course_of after) _ _ _ c.go_on-progress.ensures.goes.end c.map.ensures (λ x h vs e. search rules) in
     went_on s.rules.switches s.count (standing_rules s.rules) s.standing (course_of s.search) s.search.system c.requires c.args.budget (course_of s.search) (course_of after)
-    c.go_on-progress.result c.go_on-progress.ensures.goes _ c.end_with_setting.ensures refl _ c.phase_at-self.ensures
+    c.go_on-progress.result c.go_on-progress.ensures.goes _ ends refl _ c.from-self.ensures
