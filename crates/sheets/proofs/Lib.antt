@@ -1,4 +1,3 @@
 pub mod Gathered
-pub mod Items
 pub mod Lefts
 pub mod Tabled

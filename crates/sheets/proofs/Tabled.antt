@@ -1,5 +1,5 @@
 -- The walk over the drafts of a table.
-use Rattle.std.proofs.Common.{◌≡◌, ℕ, ◌+◌, ◌<◌, ◌≤◌, true, false, List, [], ◌∷◌, ◌++◌, map, length, get_or, drop, ℤ, is_err, Ok, Err, vec_items, Result, sym, refl, ap, ◌∙◌, arith}
+use Rattle.std.proofs.Common.{◌≡◌, ℕ, ◌+◌, ◌<◌, ◌≤◌, true, false, List, [], ◌∷◌, ◌++◌, map, length, get_or, drop, is_err, Ok, Err, vec_items, Result, sym, refl, ap, ◌∙◌, arith}
 use lib.ListN.{length-map}
 use Rattle.std.proofs.lemmas.List.{at_drop_more, at_drop_all, append_assoc}
 use Rattle.rules.specs.declared.faults.Layer.TheVariants as layer
@@ -33,26 +33,29 @@ prefixed_none (Ok more) = refl
 prefixed_none (Err f) = refl
 
 -- the draft at place i
-module _ (n : ℕ) (raws : List RawRule) (i : ℕ) (raw : RawRule) (lt : i < length raws) (is : raw ≡ get_or raws i raw) (es : List ℤ) (lent : es ≡ vec_items raw.entries) where
+module _ (n : ℕ) (raws : List RawRule) (i : ℕ) (raw : RawRule) (lt : i < length raws) (is : raw ≡ get_or raws i raw) where
   ahead : Result (List Constraint) Fault
   ahead = table_rules n (i + 1) (map draft (drop (i + 1) raws))
 
-  here : table_rules n i (map draft (drop i raws)) ≡ then (checked layer.Table i n raw.kind es) (λ r. then ahead (λ rs. Ok (r ∷ rs)))
-  unfolding ahead
+  told : Result Constraint Fault
+  told = checked layer.Table i n raw.kind (vec_items raw.entries)
+
+  here : table_rules n i (map draft (drop i raws)) ≡ then told (λ r. then ahead (λ rs. Ok (r ∷ rs)))
+  unfolding ahead told
   here =
       at_drop_more (λ rs. table_rules n i (map draft rs)) raws i raw lt
       ∙ ap (λ x. table_rules n i (draft x ∷ map draft (drop (i + 1) raws))) (sym is)
-      ∙ ap (λ vs. then (checked layer.Table i n raw.kind vs) (λ r. then ahead (λ rs. Ok (r ∷ rs)))) (sym lent)
 
-  pub passes : (r : Constraint) → Ok r ≡ checked layer.Table i n raw.kind es → table_rules n i (map draft (drop i raws)) ≡ prefixed (r ∷ []) (table_rules n (i + 1) (map draft (drop (i + 1) raws)))
-  unfolding ahead
+  pub passes : (r : Constraint) → Ok r ≡ checked layer.Table i n raw.kind (vec_items raw.entries) → table_rules n i (map draft (drop i raws)) ≡ prefixed (r ∷ []) (table_rules n (i + 1) (map draft (drop (i + 1) raws)))
+  unfolding ahead told
   passes r h = here ∙ ap (λ c. then c (λ r. then ahead (λ rs. Ok (r ∷ rs)))) (sym h) ∙ by ahead
     where
       by : (x : Result (List Constraint) Fault) → then x (λ rs. Ok (r ∷ rs)) ≡ prefixed (r ∷ []) x
       by (Ok rs) = refl
       by (Err f) = refl
 
-  pub stops : (f : Fault) → Err f ≡ checked layer.Table i n raw.kind es → table_rules n i (map draft (drop i raws)) ≡ Err f
+  pub stops : (f : Fault) → Err f ≡ checked layer.Table i n raw.kind (vec_items raw.entries) → table_rules n i (map draft (drop i raws)) ≡ Err f
+  unfolding told
   stops f h = here ∙ ap (λ c. then c (λ r. then ahead (λ rs. Ok (r ∷ rs)))) (sym h)
 
 pub past_all : (n : ℕ) (raws : List RawRule) (i : ℕ) → length raws ≤ i → table_rules n i (map draft (drop i raws)) ≡ Ok []

@@ -1,8 +1,7 @@
 -- Lemmas for the law of a pair: two sheets, one after the other.
-use Rattle.std.specs.Prelude.{◌≡◌, ℕ, zero, suc, ◌-◌, ◌<◌, ◌≤◌, max, Bool, true, List, [], ◌∷◌, ◌++◌, length, refl}
-use Rattle.std.proofs.Common.{ap, ◌∙◌, arith, length-append}
-use Rattle.std.specs.List.{slice_get}
-use Rattle.std.proofs.lemmas.Bool.{and_parts, and_from, cond_both, cond-true, leb-true}
+use Rattle.std.specs.Prelude.{◌≡◌, ℕ, ◌≤◌, max, Bool, true, List, [], ◌∷◌, ◌++◌, length, refl}
+use Rattle.std.proofs.Common.{arith, length-append}
+use Rattle.std.proofs.lemmas.Bool.{and_parts, and_from, cond_both, leb-true}
 use Rattle.std.proofs.lemmas.Bool.Decides.{nat_tests}
 use Rattle.rules.specs.First.{every}
 use Rattle.rules.specs.Constraints.{Constraint, kind, switches}
@@ -10,16 +9,6 @@ use Rattle.rules.specs.Lawful.{lawful, width_fits, inside}
 use Rattle.sheets.specs.Meaning.{Meaning, LawfulSheet, blank}
 use Rattle.sheets.specs.Piles.{joined_sheets, is_short, paired}
 use Rattle.sheets.specs.Shifts.{blank_lawful}
-
-pub nth_front : {X : Type 0} (xs ys : List X) (i : ℕ) → i < length xs → slice_get (xs ++ ys) i ≡ slice_get xs i
-nth_front [] ys i h = absurd (omega arith)
-nth_front (x ∷ xs) ys zero h = refl
-nth_front (x ∷ xs) ys (suc i) h = nth_front xs ys i (omega arith)
-
-pub nth_back : {X : Type 0} (xs ys : List X) (i : ℕ) → length xs ≤ i → slice_get (xs ++ ys) i ≡ slice_get ys (i - length xs)
-nth_back [] ys i h = ap (slice_get ys) (omega arith)
-nth_back (x ∷ xs) ys zero h = absurd (omega arith)
-nth_back (x ∷ xs) ys (suc i) h = nth_back xs ys i (omega arith) ∙ ap (slice_get ys) (omega arith)
 
 every_weaker : {X : Type 0} (t u : X → Bool) → ((x : X) → t x ≡ true → u x ≡ true) → (xs : List X) → every t xs ≡ true → every u xs ≡ true
 every_weaker t u imp [] h = refl
@@ -53,6 +42,3 @@ paired_lawful a b v w = cond_both (is_short a b) (joined_sheets a b) blank Lawfu
               (every_weaker (lawful a.switches) (lawful n) (lawful_wider a.switches n (omega arith)) a.rules v.sound)
               (every_weaker (lawful b.switches) (lawful n) (lawful_wider b.switches n (omega arith)) b.rules w.sound);
         }
-
-pub paired_is : (a b : Meaning) → is_short a b ≡ true → paired a b ≡ joined_sheets a b
-paired_is a b e = cond-true (is_short a b) (joined_sheets a b) blank e

@@ -6,3 +6,4 @@ pub mod Piles
 pub mod Joins
 pub mod Shifts
 pub mod Telling
+pub mod Places

@@ -3,6 +3,7 @@ use Rattle.std.specs.Prelude.{◌≡◌, ℕ, ◌+◌, ◌≤◌, Bool, true, no
 use Rattle.std.proofs.Common.{sym, ap, ◌∙◌, arith}
 use Rattle.std.proofs.lemmas.List.{length-map}
 use Rattle.std.specs.List.{slice_get}
+use Rattle.std.proofs.lemmas.Option.{slice_get-map}
 use Rattle.std.specs.Option.{option_map}
 use Rattle.std.proofs.lemmas.Bool.{and_parts, and_from, cond_both, cond-true, leb-true}
 use Rattle.std.proofs.lemmas.Bool.Decides.{nat_tests}
@@ -10,8 +11,7 @@ use Rattle.rules.specs.declared.literals.Literal.{Literal}
 use Rattle.rules.specs.First.{every}
 use Rattle.rules.specs.Constraints.{Constraint, clause, parity, kind, switches, entries, switch_of, positive}
 use Rattle.rules.specs.Lawful.{lawful, width_fits, inside, absent, different}
-use Rattle.rules.proofs.Places.{nth_map}
-use Rattle.sheets.specs.Meaning.{Meaning, LawfulSheet, blank, told_kind, told_entry, entries_in}
+use Rattle.sheets.specs.Meaning.{Meaning, LawfulSheet, blank, told_entry, entries_in}
 use Rattle.sheets.specs.Piles.{shifted, shifted_rule, shifted_sheet, has_room, placed}
 use Rattle.sheets.specs.Telling.{every_nth}
 
@@ -81,29 +81,19 @@ pub placed_lawful : (m : Meaning) (k : ℕ) → LawfulSheet m → LawfulSheet (p
 placed_lawful m k w = cond_both (has_room m k) (shifted_sheet k m) blank LawfulSheet (λ e. shifted_lawful m k (leb-true (m.switches + k) 256 e) w) (λ _. blank_lawful)
 
 -- what a shifted sheet tells
-told_kind_shifted : (m : Meaning) (k i : ℕ) → told_kind (shifted_sheet k m) i ≡ told_kind m i
-told_kind_shifted m k i = ap (option_map kind) (nth_map (shifted_rule k) m.rules i) ∙ same (slice_get m.rules i)
-  where
-    same : (o : Option Constraint) → option_map kind (option_map (shifted_rule k) o) ≡ option_map kind o
-    same None = refl
-    same (Some r) = ap Some (kind_shifted k r)
-
-pub told_kind_placed : (m : Meaning) (k i : ℕ) → has_room m k ≡ true → told_kind (placed m k) i ≡ told_kind m i
-told_kind_placed m k i e = ap (λ x. told_kind x i) (cond-true (has_room m k) (shifted_sheet k m) blank e) ∙ told_kind_shifted m k i
-
 told_entry_shifted : (m : Meaning) (k i j : ℕ) → told_entry (shifted_sheet k m) i j ≡ option_map (shifted k) (told_entry m i j)
-told_entry_shifted m k i j = ap (λ o. slice_get (entries_in o) j) (nth_map (shifted_rule k) m.rules i) ∙ same (slice_get m.rules i)
+told_entry_shifted m k i j = ap (λ o. slice_get (entries_in o) j) (slice_get-map (shifted_rule k) m.rules i) ∙ same (slice_get m.rules i)
   where
     same : (o : Option Constraint) → slice_get (entries_in (option_map (shifted_rule k) o)) j ≡ option_map (shifted k) (slice_get (entries_in o) j)
     same None = refl
-    same (Some r) = ap (λ es. slice_get es j) (entries_shifted k r) ∙ nth_map (shifted k) (entries r) j
+    same (Some r) = ap (λ es. slice_get es j) (entries_shifted k r) ∙ slice_get-map (shifted k) (entries r) j
 
 pub told_entry_placed : (m : Meaning) (k i j : ℕ) → has_room m k ≡ true → told_entry (placed m k) i j ≡ option_map (shifted k) (told_entry m i j)
 told_entry_placed m k i j e = ap (λ x. told_entry x i j) (cond-true (has_room m k) (shifted_sheet k m) blank e) ∙ told_entry_shifted m k i j
 
 entries_inside : (n : ℕ) (r : Constraint) → every (inside n) (switches r) ≡ true → (j : ℕ) (l : Literal) → slice_get (entries r) j ≡ Some l → inside n l.switch ≡ true
-entries_inside n (clause ls) h j l e = every_nth (inside n) (map switch_of ls) j l.switch h (nth_map switch_of ls j ∙ ap (option_map switch_of) e)
-entries_inside n (parity vs side) h j l e = by (slice_get vs j) refl (sym (nth_map positive vs j) ∙ e)
+entries_inside n (clause ls) h j l e = every_nth (inside n) (map switch_of ls) j l.switch h (slice_get-map switch_of ls j ∙ ap (option_map switch_of) e)
+entries_inside n (parity vs side) h j l e = by (slice_get vs j) refl (sym (slice_get-map positive vs j) ∙ e)
   where
     by : (o : Option ℕ) → slice_get vs j ≡ o → option_map positive o ≡ Some l → inside n l.switch ≡ true
     by None at p = let z : ◌≡◌ {A = ℕ} 0 1 = cc in absurd (omega arith)

@@ -1,7 +1,9 @@
 // The rules of one sheet followed by those of another.
 ghost use Rattle.std.specs.Prelude.{◌≡◌};
+ghost use Rattle.std.specs.List.{slice_get};
 ghost use Rattle.sheets.specs.Piles.{is_short, pair_check, paired};
 ghost use Rattle.sheets.specs.Joins.{paired_lawful};
+ghost use Rattle.sheets.specs.Places.{rule_in};
 
 use crate::sheet::Sheet;
 use rules::faults::{Cause, Fault, Layer};
@@ -14,11 +16,31 @@ pub struct Pair<F, G> {
     pub second: G,
 }
 
+// Where a rule of a pair stands: in which of its sheets, and as which of that sheet's rules.
+#[derive(Clone, Copy)]
+enum Place {
+    First(usize),
+    Second(usize),
+}
+
 impl<F: Sheet, G: Sheet> Pair<F, G> {
     fn is_short(&self) -> bool
         ensures { result ≡ is_short (F.Sheet.meaning self.now.first) (G.Sheet.meaning self.now.second) }
     {
         self.first.count() + self.second.count() <= 2048
+    }
+
+    // Where rule i stands; nowhere, where the pair is blank.
+    fn place(&self, i: usize) -> Option<Place>
+        ensures { rule_in (F.Sheet.meaning self.now.first) (G.Sheet.meaning self.now.second) result ≡ slice_get (paired (F.Sheet.meaning self.now.first) (G.Sheet.meaning self.now.second)).rules i }
+    {
+        if !self.is_short() {
+            return None;
+        }
+        match i.checked_sub(self.first.count()) {
+            Some(k) => Some(Place::Second(k)),
+            None => Some(Place::First(i)),
+        }
     }
 
     // Refused where the rules would pass 2,048; the sheet is then blank.
@@ -28,12 +50,7 @@ impl<F: Sheet, G: Sheet> Pair<F, G> {
         if self.is_short() {
             Ok(())
         } else {
-            Err(Fault {
-                layer: Layer::Pile,
-                cause: Cause::PairTooLong,
-                record: 0,
-                place: 0,
-            })
+            Err(Layer::Pile.fault(Cause::PairTooLong, 0, 0))
         }
     }
 }
@@ -60,26 +77,16 @@ impl<F: Sheet, G: Sheet> Sheet for Pair<F, G> {
     }
 
     fn kind(&self, i: usize) -> Option<Kind> {
-        if !self.is_short() {
-            return None;
-        }
-        let split = self.first.count();
-        if i < split {
-            self.first.kind(i)
-        } else {
-            self.second.kind(i - split)
+        match self.place(i)? {
+            Place::First(k) => self.first.kind(k),
+            Place::Second(k) => self.second.kind(k),
         }
     }
 
     fn entry(&self, i: usize, j: usize) -> Option<Literal> {
-        if !self.is_short() {
-            return None;
-        }
-        let split = self.first.count();
-        if i < split {
-            self.first.entry(i, j)
-        } else {
-            self.second.entry(i - split, j)
+        match self.place(i)? {
+            Place::First(k) => self.first.entry(k, j),
+            Place::Second(k) => self.second.entry(k, j),
         }
     }
 }

@@ -1,5 +1,5 @@
 // A sheet with a number added to each switch number.
-ghost use Rattle.std.specs.Prelude.{◌≡◌};
+ghost use Rattle.std.specs.Prelude.{◌≡◌, true, false, MatchOption};
 ghost use Rattle.sheets.specs.Piles.{has_room, placing_check, placed};
 ghost use Rattle.sheets.specs.Shifts.{placed_lawful};
 
@@ -21,6 +21,13 @@ impl<S: Sheet> Placing<S> {
         self.below.switches() as u32 + self.by as u32 <= 256
     }
 
+    // The sheet below, where its switches have room.
+    fn with_room(&self) -> Option<&S>
+        ensures { MatchOption result (has_room (S.Sheet.meaning self.now.below) self.now.by ≡ false) (λ below. (has_room (S.Sheet.meaning self.now.below) self.now.by ≡ true) × (below.now ≡ self.now.below)) }
+    {
+        self.has_room().then_some(&self.below)
+    }
+
     // Refused where the switches would pass 256; the sheet is then blank.
     pub fn check(&self) -> Result<(), Fault>
         ensures { result ≡ placing_check (S.Sheet.meaning self.now.below) self.now.by }
@@ -28,12 +35,7 @@ impl<S: Sheet> Placing<S> {
         if self.has_room() {
             Ok(())
         } else {
-            Err(Fault {
-                layer: Layer::Pile,
-                cause: Cause::PlacedTooHigh,
-                record: 0,
-                place: 0,
-            })
+            Err(Layer::Pile.fault(Cause::PlacedTooHigh, 0, 0))
         }
     }
 }
@@ -44,34 +46,20 @@ impl<S: Sheet> Sheet for Placing<S> {
     ghost lawful = { λ s. placed_lawful (S.Sheet.meaning s.below) s.by (S.Sheet.lawful s.below) };
 
     fn switches(&self) -> u16 {
-        if self.has_room() {
-            self.below.switches() + self.by
-        } else {
-            0
-        }
+        self.with_room()
+            .map_or(0, |below| below.switches() + self.by)
     }
 
     fn count(&self) -> usize {
-        if self.has_room() {
-            self.below.count()
-        } else {
-            0
-        }
+        self.with_room().map_or(0, |below| below.count())
     }
 
     fn kind(&self, i: usize) -> Option<Kind> {
-        if self.has_room() {
-            self.below.kind(i)
-        } else {
-            None
-        }
+        self.with_room()?.kind(i)
     }
 
     fn entry(&self, i: usize, j: usize) -> Option<Literal> {
-        if !self.has_room() {
-            return None;
-        }
-        let literal = self.below.entry(i, j)?;
+        let literal = self.with_room()?.entry(i, j)?;
         Some(Literal {
             switch: literal.switch + self.by,
             on: literal.on,

@@ -33,16 +33,10 @@ impl Sheet for Table {
     }
 
     fn kind(&self, i: usize) -> Option<Kind> {
-        match self.rules.get(i) {
-            Some(rule) => Some(rule.kind()),
-            None => None,
-        }
+        self.rules.get(i).map(|rule| rule.kind())
     }
 
     fn entry(&self, i: usize, j: usize) -> Option<Literal> {
-        match self.rules.get(i) {
-            Some(rule) => rule.entry(j),
-            None => None,
-        }
+        self.rules.get(i).and_then(|rule| rule.entry(j))
     }
 }

@@ -1,5 +1,8 @@
 // Tables checked and made from rules that come from outside.
-ghost use Rattle.std.specs.Prelude.{◌≡◌, map, IfOk};
+ghost use Rattle.std.specs.Prelude.{◌≡◌, ◌<◌, map, IfOk};
+ghost use Rattle.rules.specs.First.{on_ok};
+ghost use Rattle.rules.specs.Checks.{checked};
+ghost use Rattle.rules.specs.Views.{constraint};
 ghost use Rattle.sheets.specs.Meaning.{check_of, or_blank, blank};
 ghost use Rattle.sheets.specs.Tables.{table, table_size};
 ghost use Rattle.sheets.specs.Views.{draft, tabled};
@@ -8,28 +11,33 @@ use crate::raw::RawRule;
 use crate::table::Table;
 use rules::checks::check_rule;
 use rules::faults::{Cause, Fault, Layer};
+use rules::rule::Rule;
 use std::alloc::{AllocError, Global};
 
 fn check_size(n: u16, count: usize) -> Result<(), Fault>
     ensures { result ≡ table_size n count }
 {
-    if n < 1 || n > 256 {
-        return Err(Fault {
-            layer: Layer::Table,
-            cause: Cause::SwitchCount,
-            record: 0,
-            place: 0,
-        });
+    if !(1..=256).contains(&n) {
+        return Err(Layer::Table.fault(Cause::SwitchCount, 0, 0));
     }
     if count > 1024 {
-        return Err(Fault {
-            layer: Layer::Table,
-            cause: Cause::RuleCount,
-            record: 1024,
-            place: 0,
-        });
+        return Err(Layer::Table.fault(Cause::RuleCount, 1024, 0));
     }
     Ok(())
+}
+
+// Rule i of a table over n switches, or its fault.
+fn check_draft(n: u16, i: usize, rule: &RawRule) -> Result<Rule, Fault>
+    requires { i < 1024 }
+    ensures { on_ok constraint result ≡ checked Layer.Table i n rule.now.kind rule.now.entries.items }
+{
+    check_rule(
+        Layer::Table,
+        i as u16,
+        n,
+        rule.kind,
+        rule.entries.as_slice(),
+    )
 }
 
 // The first fault of a table over n switches: its size, then rule by rule.
@@ -38,13 +46,7 @@ pub fn check_table(n: u16, rules: &[RawRule]) -> Result<(), Fault>
 {
     check_size(n, rules.len())?;
     for (i, rule) in rules.iter().enumerate() {
-        check_rule(
-            Layer::Table,
-            i as u16,
-            n,
-            rule.kind,
-            rule.entries.as_slice(),
-        )?;
+        check_draft(n, i, rule)?;
     }
     Ok(())
 }
@@ -68,16 +70,10 @@ pub fn make_table(heap: Global, n: u16, rules: &[RawRule]) -> Result<Table, Allo
     }
     let mut built = Vec::new(heap);
     for (i, rule) in rules.iter().enumerate() {
-        match check_rule(
-            Layer::Table,
-            i as u16,
-            n,
-            rule.kind,
-            rule.entries.as_slice(),
-        ) {
-            Ok(rule) => built.push(rule)?,
-            Err(_fault) => return Ok(blank_table(heap)),
-        }
+        let Ok(rule) = check_draft(n, i, rule) else {
+            return Ok(blank_table(heap));
+        };
+        built.push(rule)?;
     }
     Ok(Table {
         switches: n,

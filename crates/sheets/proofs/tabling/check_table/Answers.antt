@@ -10,17 +10,17 @@ returns-in_err-check_size c =
     let p = err_from_is_err_and c.from_residual.result c.from_residual.ensures.1 in
     rw (p.1, p.2) (sym (ap check_of (size_refused c.args.n c.args.rules.now _ c.in_err-check_size.ensures)))
 
-pub returns-in_err-check_rule : goal.returns-in_err-check_rule
-returns-in_err-check_rule c =
-    let p = err_from_is_err_and c.from_residual-in_err-check_rule.result c.from_residual-in_err-check_rule.ensures.1 in
-    let here = stops c.args.n c.args.rules.now c.loop-i.i c.index-rules-i.result c.loop-i-test.true c.index-rules-i.is _ c.as_slice.ensures.value _ c.in_err-check_rule.ensures in
+pub returns-in_err-check_draft : goal.returns-in_err-check_draft
+returns-in_err-check_draft c =
+    let p = err_from_is_err_and c.from_residual-in_err-check_draft.result c.from_residual-in_err-check_draft.ensures.1 in
+    let here = stops c.args.n c.args.rules.now c.loop-i.i c.index-rules-i.result c.loop-i-test.true c.index-rules-i.is _ c.in_err-check_draft.ensures in
     let whole = size_fits c.args.n c.args.rules.now _ c.in_ok-check_size.ensures in
     rw (p.1, p.2) (sym (ap checked_only here) ∙ c.loop-i.invariant ∙ check_over c.args.n _ ∙ sym (ap check_of whole))
 
 pub loop-i-preserved : goal.loop-i-preserved
 loop-i-preserved c =
-    let here = passes c.args.n c.args.rules.now c.loop-i.i c.index-rules-i.result c.loop-i-test.true c.index-rules-i.is _ c.as_slice.ensures.value _ c.in_ok-check_rule.ensures in
-    sym (ap checked_only here ∙ checked_prefixed (constraint c.in_ok-check_rule.field-0 ∷ []) _) ∙ c.loop-i.invariant
+    let here = passes c.args.n c.args.rules.now c.loop-i.i c.index-rules-i.result c.loop-i-test.true c.index-rules-i.is _ c.in_ok-check_draft.ensures in
+    sym (ap checked_only here ∙ checked_prefixed (constraint c.in_ok-check_draft.field-0 ∷ []) _) ∙ c.loop-i.invariant
 
 pub returns : goal.returns
 returns c =
