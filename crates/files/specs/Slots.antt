@@ -1,8 +1,7 @@
 -- Lemmas for the law of the first-year format: the slots of a clause.
-use Rattle.std.specs.Prelude.{◌≡◌, ℕ, suc, ◌+◌, ◌<◌, ◌≤◌, Bool, true, false, cond, List, [], ◌∷◌, ◌++◌, length, take, drop, ℤ, pos, Some, None, Option, Result, slice_index, slice_index_or, refl}
+use Rattle.std.specs.Prelude.{◌≡◌, ℕ, suc, ◌+◌, ◌<◌, ◌≤◌, Bool, true, false, cond, List, [], ◌∷◌, length, drop, ℤ, Some, None, Option, Result, slice_index, refl}
 use Rattle.std.proofs.Common.{sym, ap, ◌∙◌, arith, length-drop}
-use Rattle.std.proofs.lemmas.List.{append-nil, append_assoc, take_more, at_drop_more, at_drop_all}
-use Rattle.std.proofs.lemmas.Bool.{cond-true, cond-false, leb-true, le-leb}
+use Rattle.std.proofs.lemmas.Bool.{cond-true, leb-true, le-leb}
 use Rattle.std.proofs.lemmas.List.FromFn.{length-map-range_with_len}
 use Rattle.std.proofs.lemmas.Bool.Decides.{nat_tests}
 use Rattle.rules.specs.declared.faults.Cause.TheVariants.{Form, Width}
@@ -13,31 +12,6 @@ use Rattle.files.specs.Numbers.{entry, entries_in}
 use Rattle.files.specs.Formats.{RuleRead, Sound, SoundAt, flaw, framed, clause_marked}
 use Rattle.files.specs.FirstFormat.{is_empty, used_slots, filled_from, gap, unless_gap, slotted, first_clause, first_rule}
 use Rattle.files.specs.Sounds.{sound_demand, sound_framed}
-
--- the first i slots are used
-module _ (es : List ℤ) (i : ℕ) (far : used_slots es ≡ take i es ++ used_slots (drop i es)) where
-  pub used_more : i < length es → is_empty (slice_index_or es i (pos 0)) ≡ false → used_slots es ≡ take (i + 1) es ++ used_slots (drop (i + 1) es)
-  used_more lt filled =
-      let next : used_slots (drop i es) ≡ slice_index_or es i (pos 0) ∷ used_slots (drop (i + 1) es) = at_drop_more used_slots es i (pos 0) lt ∙ cond-false _ _ _ filled in
-      far ∙ ap (λ l. take i es ++ l) next ∙ sym (append_assoc (take i es) (slice_index_or es i (pos 0) ∷ []) _) ∙ ap (λ l. l ++ used_slots (drop (i + 1) es)) (sym (take_more es i (pos 0) lt))
-
-  pub used_found : i < length es → is_empty (slice_index_or es i (pos 0)) ≡ true → used_slots es ≡ take i es
-  used_found lt empty =
-      let next : used_slots (drop i es) ≡ [] = at_drop_more used_slots es i (pos 0) lt ∙ cond-true _ _ _ empty in
-      far ∙ ap (λ l. take i es ++ l) next ∙ append-nil (take i es)
-
-  pub used_all : i ≡ length es → used_slots es ≡ take (length es) es
-  used_all is = far ∙ ap (λ l. take i es ++ l) (at_drop_all used_slots es i (omega arith)) ∙ append-nil (take i es) ∙ ap (λ k. take k es) is
-
-module _ (es : List ℤ) (i : ℕ) where
-  pub filled_more : i < length es → is_empty (slice_index_or es i (pos 0)) ≡ true → filled_from i (drop i es) ≡ filled_from (i + 1) (drop (i + 1) es)
-  filled_more lt empty = at_drop_more (filled_from i) es i (pos 0) lt ∙ cond-true _ _ _ empty
-
-  pub filled_here : i < length es → is_empty (slice_index_or es i (pos 0)) ≡ false → filled_from i (drop i es) ≡ Some i
-  filled_here lt filled = at_drop_more (filled_from i) es i (pos 0) lt ∙ cond-false _ _ _ filled
-
-  pub filled_none : length es ≤ i → filled_from i (drop i es) ≡ None
-  filled_none past = at_drop_all (filled_from i) es i past
 
 filled_within : (i : ℕ) (es : List ℤ) (j : ℕ) → filled_from i es ≡ Some j → j < i + length es
 filled_within i [] j h = let z : ◌≡◌ {A = ℕ} 0 1 = cc in absurd (omega arith)

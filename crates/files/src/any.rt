@@ -14,10 +14,7 @@ use std::alloc::{AllocError, Global};
 fn is_third_year(bytes: &[u8]) -> bool
     ensures { result ≡ is_third bytes.now }
 {
-    if bytes.len() < 2 {
-        return false;
-    }
-    bytes[1] == b'3'
+    bytes.get(1) == Some(&b'3')
 }
 
 // The fault of the file, if it has one: third-year where its second byte is 33, and first-year otherwise.

@@ -1,8 +1,8 @@
 // The first-year format: clauses in eight slots.
-ghost use Rattle.std.specs.Prelude.{◌≡◌, ◌≤◌, length, take, drop};
+ghost use Rattle.std.specs.Prelude.{◌≡◌, ◌<◌, ◌≤◌, length, take, drop, refl, IfSome};
 ghost use Rattle.rules.specs.First.{on_ok};
 ghost use Rattle.files.specs.Formats.{read_as};
-ghost use Rattle.files.specs.FirstFormat.{first_year, is_empty, used_slots, filled_from, slotted, first_clause};
+ghost use Rattle.files.specs.FirstFormat.{first_year, used_slots, filled_from, slotted, first_clause};
 ghost use Rattle.files.specs.Slots.{first_sound};
 
 use crate::numbers::decode;
@@ -13,37 +13,25 @@ use rules::kinds::Kind;
 // The first generation of the format.
 pub struct FirstYear;
 
-// An empty slot is two bytes 0.
-fn is_empty(slot: i16) -> bool
-    ensures { result ≡ is_empty slot }
-{
-    slot == 0
-}
-
-// How many slots come before the first empty one.
+// How many slots come before the first empty one, which is 0.
 fn count_used(slots: &[i16]) -> usize
     ensures within { result ≤ length slots.now }
     ensures front { used_slots slots.now ≡ take result slots.now }
 {
-    for i in 0..slots.len() {
-        if is_empty(slots[i]) {
-            return i;
-        }
-    }
-    slots.len()
+    slots
+        .iter()
+        .position(|slot| *slot == 0)
+        .unwrap_or(slots.len())
 }
 
 // The first filled slot from the slot `from` on.
 fn find_filled(slots: &[i16], from: usize) -> Option<usize>
     requires { from ≤ length slots.now }
-    ensures { result ≡ filled_from from (drop from slots.now) }
+    ensures first { result ≡ filled_from from (drop from slots.now) }
+    ensures within { IfSome result (λ i. i < length slots.now) }
 {
-    for i in from..slots.len() {
-        if !is_empty(slots[i]) {
-            return Some(i);
-        }
-    }
-    None
+    let filled = slots[from..].iter().position(|slot| *slot != 0)?;
+    Some(from + filled)
 }
 
 // The clause of the slots: the first is filled, and none is filled after an empty one.
@@ -63,7 +51,7 @@ fn read_slots(n: u16, slots: &[i16]) -> Result<RuleRecord, Flaw>
             cause: Cause::Width,
             offset: 2 + 2 * i,
         }),
-        None => frame(Kind::Clause, n, &slots[0..used], 2, 18),
+        None => frame(Kind::Clause, n, &slots[..used], 2, 18),
     }
 }
 
@@ -77,18 +65,19 @@ fn read_clause(n: u16, slots: &[u8]) -> Result<RuleRecord, Flaw>
             offset: 0,
         });
     }
-    let entries = decode(slots, 8);
-    read_slots(n, &entries[0..8])
+    read_slots(n, decode(slots, 8).as_slice())
 }
 
 impl Generation for FirstYear {
     ghost format = { first_year };
 
+    ghost HEAD = { first_year.head_byte };
+
+    ghost head = { refl };
+
     ghost sound = { λ n bs. first_sound n bs };
 
-    fn head_byte() -> u8 {
-        b'1'
-    }
+    const HEAD: u8 = b'1';
 
     fn read_rule(n: u16, bytes: &[u8]) -> Option<Result<RuleRecord, Flaw>> {
         match bytes {

@@ -7,4 +7,5 @@ pub mod first_year;
 mod numbers;
 pub mod reading;
 pub mod records;
+mod sequence;
 pub mod third_year;

@@ -29,12 +29,15 @@ pub trait Generation {
     ghost format: { Format };
 
     // The second byte of the head.
-    fn head_byte() -> u8
-        ensures { result ≡ format.head_byte };
+    const HEAD: u8;
+
+    ghost HEAD: { ℕ };
 
     // The rule record at the front of the bytes; absent where they do not begin with a rule's mark.
     fn read_rule(n: u16, bytes: &[u8]) -> Option<Result<RuleRecord, Flaw>>
         ensures { option_map (on_ok read_as) result ≡ format.rule_at n bytes.now };
+
+    ghost head: { HEAD ≡ format.head_byte };
 
     ghost sound: { (n : ℕ) (bs : List ℕ) → SoundAt n (length bs) (format.rule_at n bs) };
 }
@@ -50,11 +53,9 @@ pub(crate) fn frame(
     requires { (length entries.now ≤ 16) × (first ≤ 16) }
     ensures { on_ok read_as result ≡ framed first size (built kind n entries.now) }
 {
-    match build_rule(kind, n, entries) {
-        Ok(rule) => Ok(RuleRecord { rule, size }),
-        Err(misfit) => Err(Flaw {
-            cause: misfit.cause,
-            offset: first + 2 * misfit.index,
-        }),
-    }
+    let rule = build_rule(kind, n, entries).map_err(|misfit| Flaw {
+        cause: misfit.cause,
+        offset: first + 2 * misfit.index,
+    })?;
+    Ok(RuleRecord { rule, size })
 }

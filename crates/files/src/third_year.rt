@@ -1,18 +1,37 @@
 // The third-year format: clauses and parity rules, each with a width byte.
-ghost use Rattle.std.specs.Prelude.{◌≡◌, ◌*◌, ◌≤◌, length};
+ghost use Rattle.std.specs.Prelude.{◌≡◌, ◌*◌, ◌≤◌, length, refl};
 ghost use Rattle.rules.specs.First.{on_ok};
 ghost use Rattle.files.specs.Formats.{read_as};
-ghost use Rattle.files.specs.ThirdFormat.{third_year, listed, third_clause, third_parity};
+ghost use Rattle.files.specs.ThirdFormat.{third_year, SizeChecked, listed, third_clause, third_parity};
 ghost use Rattle.files.specs.ThirdRules.{third_sound};
 
 use crate::numbers::decode;
 use crate::records::{Flaw, Generation, RuleRecord, frame};
 use rules::building::width_fits;
 use rules::faults::Cause;
-use rules::kinds::{Kind, Side, side_of};
+use rules::kinds::{Kind, Side};
 
 // The third generation of the format.
 pub struct ThirdYear;
+
+// The width fits the kind, and the bytes that it asks for are present.
+fn check_size(kind: Kind, width: usize, asked: usize, rest: &[u8]) -> Result<(), Flaw>
+    ensures { SizeChecked kind width asked rest.now result }
+{
+    if !width_fits(kind, width) {
+        return Err(Flaw {
+            cause: Cause::Width,
+            offset: 2,
+        });
+    }
+    if rest.len() < asked {
+        return Err(Flaw {
+            cause: Cause::Form,
+            offset: 0,
+        });
+    }
+    Ok(())
+}
 
 // The entries at the front of the bytes, as a rule of the kind; `first` bytes of the record come before them.
 fn read_entries(
@@ -26,7 +45,7 @@ fn read_entries(
     ensures { on_ok read_as result ≡ listed kind n first width bytes.now }
 {
     let entries = decode(bytes, width);
-    frame(kind, n, &entries[0..width], first, first + 2 * width)
+    frame(kind, n, entries.as_slice(), first, first + 2 * width)
 }
 
 // A clause from its width on.
@@ -34,18 +53,7 @@ fn read_clause(n: u16, width: u8, literals: &[u8]) -> Result<RuleRecord, Flaw>
     ensures { on_ok read_as result ≡ third_clause n width literals.now }
 {
     let width = width as usize;
-    if !width_fits(Kind::Clause, width) {
-        return Err(Flaw {
-            cause: Cause::Width,
-            offset: 2,
-        });
-    }
-    if literals.len() < 2 * width {
-        return Err(Flaw {
-            cause: Cause::Form,
-            offset: 0,
-        });
-    }
+    check_size(Kind::Clause, width, 2 * width, literals)?;
     read_entries(Kind::Clause, n, 3, width, literals)
 }
 
@@ -54,38 +62,27 @@ fn read_parity(n: u16, width: u8, rest: &[u8]) -> Result<RuleRecord, Flaw>
     ensures { on_ok read_as result ≡ third_parity n width rest.now }
 {
     let width = width as usize;
-    if !width_fits(Kind::Parity(Side::Even), width) {
-        return Err(Flaw {
-            cause: Cause::Width,
-            offset: 2,
-        });
-    }
-    if rest.len() < 1 + 2 * width {
-        return Err(Flaw {
-            cause: Cause::Form,
-            offset: 0,
-        });
-    }
+    check_size(Kind::Parity(Side::Even), width, 1 + 2 * width, rest)?;
     let [side, switches @ ..] = rest else {
         unreachable()
     };
-    let Some(side) = side_of(*side) else {
-        return Err(Flaw {
-            cause: Cause::Entry,
-            offset: 3,
-        });
-    };
+    let side = Side::try_from(*side).map_err(|_none| Flaw {
+        cause: Cause::Entry,
+        offset: 3,
+    })?;
     read_entries(Kind::Parity(side), n, 4, width, switches)
 }
 
 impl Generation for ThirdYear {
     ghost format = { third_year };
 
+    ghost HEAD = { third_year.head_byte };
+
+    ghost head = { refl };
+
     ghost sound = { λ n bs. third_sound n bs };
 
-    fn head_byte() -> u8 {
-        b'3'
-    }
+    const HEAD: u8 = b'3';
 
     fn read_rule(n: u16, bytes: &[u8]) -> Option<Result<RuleRecord, Flaw>> {
         match bytes {
