@@ -1,17 +1,15 @@
 -- Buffers with bytes put over a part of them.
-use Rattle.std.proofs.Common.{◌≡◌, ℕ, ◌+◌, ◌-◌, ◌≤◌, List, [], ◌++◌, length, take, drop, sym, ap, ◌∙◌, append_assoc, arith, length-append}
-use borrow.Rule.Slice.PartMut.{put_mid}
+use Rattle.std.proofs.Common.{◌≡◌, ℕ, ◌+◌, ◌≤◌, List, [], ◌++◌, length, take, drop, sym, ap, ◌∙◌, append_assoc, arith, length-append, length-drop}
 use Rattle.std.proofs.lemmas.List.{drop-drop, take_at, drop_at, length-take-le, take-append-drop}
 use Rattle.text.specs.Lent.{over_front}
 use Rattle.writer.specs.Bytes.{over_at}
 
-pub put_over : (old bytes last : List ℕ) (at : ℕ) → last ≡ bytes → put_mid at ((at + length bytes) - at) old last ≡ over_at old at bytes
-put_over old bytes last at e =
-    let k : (at + length bytes) - at ≡ length bytes = omega arith in
-    ap (λ ys. put_mid at ((at + length bytes) - at) old ys) e ∙ ap (λ n. put_mid at n old bytes) k ∙ ap (λ d. take at old ++ (bytes ++ d)) (drop-drop (length bytes) at old)
-
 pub over_none : (old : List ℕ) (at : ℕ) → over_at old at [] ≡ old
 over_none old at = let k : at + 0 ≡ at = omega arith in ap (λ n. take at old ++ drop n old) k ∙ take-append-drop at old
+
+pub length_over : (old : List ℕ) (at : ℕ) (bytes : List ℕ) → at + length bytes ≤ length old → length (over_at old at bytes) ≡ length old
+length_over old at bytes room =
+    omega (arith, length-append (take at old) (bytes ++ drop (at + length bytes) old), length-append bytes (drop (at + length bytes) old), length-take-le at old (omega arith), length-drop (at + length bytes) old)
 
 -- bytes, and more bytes right behind them
 pub over_over : (old a b : List ℕ) (at behind : ℕ) → at ≤ length old → behind ≡ at + length a → over_at (over_at old at a) behind b ≡ over_at old at (a ++ b)

@@ -1,6 +1,7 @@
 -- The entries of a lawful clause build that clause.
-use Rattle.std.proofs.Common.{◌≡◌, ℕ, zero, suc, ◌<◌, ◌≤◌, Bool, true, false, eqb, leb, List, [], ◌∷◌, map, length, get_or, pos, None, Ok, Option, sym, refl, ap, ◌∙◌, add-one, arith}
+use Rattle.std.proofs.Common.{◌≡◌, ℕ, zero, suc, ◌<◌, ◌≤◌, Bool, true, false, ◌||◌, eqb, leb, List, [], ◌∷◌, map, length, get_or, pos, None, Ok, Option, sym, refl, ap, ◌∙◌, arith}
 use lib.ListN.{length-map}
+use Rattle.std.specs.Option.{option_or}
 use Rattle.std.proofs.lemmas.List.{get_or-map}
 use Rattle.std.proofs.lemmas.Bool.{and_from, le-leb, ne_eqb, cond-true}
 use Rattle.rules.specs.declared.literals.Literal.{Literal}
@@ -10,18 +11,19 @@ use Rattle.rules.specs.Settings.{Within}
 use Rattle.rules.specs.Constraints.{clause, switch_of, Each}
 use Rattle.rules.specs.Lawful.{lawful, Lawful, width_fits, inside}
 use Rattle.rules.specs.Entries.{literal, named_switch, literal_fits, named, entry_misfit, rule_misfit, built}
-use Rattle.rules.proofs.Firsts.{first_none, first_more, some_none, some_more}
 use Rattle.rules.proofs.Lawfuls.{lawful_by_place}
 use Rattle.rules.proofs.Misfits.{entry_fine}
 use Rattle.writer.proofs.Entries.{entry_of, InRange, literal_entry}
 
 none_found : {X : Type 0} (f : ℕ → Option X) (k : ℕ) → ((i : ℕ) → i < k → f i ≡ None) → first_of f k ≡ None
-none_found f zero h = first_none f
-none_found f (suc k) h = ap (first_of f) (sym (add-one k)) ∙ first_more f k (none_found f k (λ i lt. h i (omega arith))) (h k (omega arith))
+unfolding first_of
+none_found f zero h = refl
+none_found f (suc k) h = ap (λ o. option_or o (f k)) (none_found f k (λ i lt. h i (omega arith))) ∙ h k (omega arith)
 
 none_below : (t : ℕ → Bool) (k : ℕ) → ((i : ℕ) → i < k → t i ≡ false) → some_below t k ≡ false
-none_below t zero h = some_none t
-none_below t (suc k) h = ap (some_below t) (sym (add-one k)) ∙ some_more t k (none_below t k (λ i lt. h i (omega arith))) (h k (omega arith))
+unfolding some_below
+none_below t zero h = refl
+none_below t (suc k) h = ap (λ b. b || t k) (none_below t k (λ i lt. h i (omega arith))) ∙ h k (omega arith)
 
 each_from : {X : Type 0} (P : X → Type 0) (d : X) (xs : List X) → ((i : ℕ) → i < length xs → P (get_or xs i d)) → Each P xs
 each_from P d [] h = tt

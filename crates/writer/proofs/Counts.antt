@@ -1,22 +1,19 @@
 -- How many clauses a parity rule is written as, and how many records a rule takes.
-use Rattle.std.proofs.Common.{◌≡◌, ℕ, suc, ◌/◌, ◌^◌, ◌<◌, ◌≤◌, Bool, true, false, cond, not, List, [], ◌∷◌, map, length, Some, None, filter, Option, sym, refl, ap, ◌∙◌, arith, length-append, pow_mono}
+use Rattle.std.proofs.Common.{◌≡◌, ℕ, suc, ◌+◌, ◌*◌, ◌/◌, ◌%◌, ◌^◌, ◌<◌, ◌≤◌, Bool, true, false, cond, not, List, [], ◌∷◌, map, length, Some, None, Ok, Err, IfSome, filter, Option, sym, refl, ap, ◌∙◌, arith, length-append, pow_mono}
 use native.Mathlib.Nat.{two-pow-succ}
 use lib.ListN.{length-map}
-use Rattle.std.specs.List.{slice_get}
-use Rattle.std.specs.Option.{option_map}
+use Rattle.std.specs.Option.{ok_or}
 use Rattle.std.proofs.lemmas.List.Elements.{filter-append}
-use Rattle.std.proofs.lemmas.List.{append-nil}
-use Rattle.std.proofs.lemmas.Bool.{lt-ltb, le-ltb}
 use Rattle.std.proofs.lemmas.List.Filters.{length-filter_both}
-use Rattle.rules.specs.declared.kinds.Kind.TheVariants.{Parity}
+use Rattle.std.proofs.lemmas.Bool.{lt-ltb, le-ltb, cond-true, cond-false}
+use Rattle.std.proofs.lemmas.Nat.{one_shl}
 use Rattle.rules.specs.declared.kinds.Side.{Side}
-use Rattle.rules.specs.Constraints.{Constraint, clause, parity, kind, positive, same, is_odd}
-use Rattle.rules.specs.Lawful.{lawful}
-use Rattle.rules.proofs.Lawfuls.{lawful_by_place}
-use Rattle.sheets.specs.Meaning.{Meaning, LawfulSheet, told_kind, entries_in}
-use Rattle.sheets.specs.Telling.{every_nth}
+use Rattle.rules.specs.declared.faults.Fault.{Fault}
+use Rattle.rules.specs.Constraints.{Constraint, parity, same, is_odd}
 use Rattle.parity_theory.specs.Writing.{settings, odd_number, off_side, against, written_out}
-use Rattle.writer.specs.Parts.{wide_in, Counted}
+use Rattle.writer.specs.Expansion.{expanded, clauses_of, is_wide}
+use Rattle.writer.specs.Writing.{first_wide}
+use Rattle.writer.specs.Parts.{records_for}
 use Rattle.writer.proofs.Settings.{length_settings}
 
 length_kept_map : {X Y : Type 0} (p : Y → Bool) (f : X → Y) (xs : List X) → length (filter p (map f xs)) ≡ length (filter (λ x. p (f x)) xs)
@@ -60,26 +57,37 @@ written_count (v ∷ vs) side h =
 power_small : (w : ℕ) → w ≤ 5 → 2 ^ w / 2 ≤ 16
 power_small w h = let most = pow_mono {i = w} {j = 5} h in omega arith
 
--- the records of a parity rule i that has w entries
-module _ (m : Meaning) (law : LawfulSheet m) (i : ℕ) (side : Side) (w : ℕ) (long : length (entries_in (slice_get m.rules i)) ≡ w) where
-  pub parity_wide : Some (Parity side) ≡ told_kind m i → 5 < w → wide_in (slice_get m.rules i) ≡ true
-  parity_wide h wide = by (slice_get m.rules i) h long
-    where
-      by : (o : Option Constraint) → Some (Parity side) ≡ option_map kind o → length (entries_in o) ≡ w → wide_in o ≡ true
-      by None h e = let z : ◌≡◌ {A = ℕ} 0 1 = cc in absurd (omega arith)
-      by (Some (clause ls)) h e = let z : ◌≡◌ {A = ℕ} 0 1 = cc in absurd (omega arith)
-      by (Some (parity vs s)) h e = let same_length = length-map vs positive in lt-ltb 5 (length vs) (omega arith)
+-- a parity rule that is not too wide, by the shift that the code has
+pub parity_count : (vs : List ℕ) (side : Side) (w : ℕ) → length vs ≡ w → 1 ≤ length vs → w ≤ 5 → (Some (1 * 2 ^ w % 2 ^ 64 / 2) ≡ records_for (parity vs side)) × (1 * 2 ^ w % 2 ^ 64 / 2 ≤ 16)
+parity_count vs side w wide some narrow =
+    let shift = one_shl w 64 (omega arith) in
+    let half : length (written_out vs side) ≡ 1 * 2 ^ w % 2 ^ 64 / 2 = written_count vs side some ∙ ap (λ n. 2 ^ n / 2) wide ∙ ap (λ n. n / 2) (sym shift) in
+    (sym (cond-false _ _ _ (le-ltb 5 (length vs) (omega arith)) ∙ ap Some half), omega (arith, power_small w narrow))
 
-  pub parity_counted : Some (Parity side) ≡ told_kind m i → w ≤ 5 → Counted (slice_get m.rules i) (Some (2 ^ w / 2))
-  parity_counted h narrow = by (slice_get m.rules i) refl h long
+pub parity_wide : (vs : List ℕ) (side : Side) → 5 < length vs → None ≡ records_for (parity vs side)
+parity_wide vs side wide = sym (cond-true _ _ _ (lt-ltb 5 (length vs) wide))
+
+-- what is told of a rule
+pub counted : (o : Option ℕ) (k : ℕ) (f : Fault) → Ok k ≡ ok_or o f → IfSome o (λ n. n ≤ 16) → (Some k ≡ o) × (k ≤ 16)
+counted None k f h few = cc
+counted (Some n) k f h few = let same : k ≡ n = cc in (ap Some same, omega arith)
+
+pub refused : (o : Option ℕ) (e f : Fault) → Err e ≡ ok_or o f → (None ≡ o) × (e ≡ f)
+refused None e f h = (refl, cc)
+refused (Some n) e f h = cc
+
+-- the first of the rules that are left
+module _ (i : ℕ) (r : Constraint) (rules : List Constraint) where
+  pub count_more : (k : ℕ) → Some k ≡ records_for r → (length (clauses_of (r ∷ rules)) ≡ k + length (clauses_of rules)) × (first_wide i (r ∷ rules) ≡ first_wide (i + 1) rules)
+  count_more k h = by (is_wide r) h
     where
-      by : (o : Option Constraint) → slice_get m.rules i ≡ o → Some (Parity side) ≡ option_map kind o → length (entries_in o) ≡ w → Counted o (Some (2 ^ w / 2))
-      by None is h e = let z : ◌≡◌ {A = ℕ} 0 1 = cc in absurd (omega arith)
-      by (Some (clause ls)) is h e = let z : ◌≡◌ {A = ℕ} 0 1 = cc in absurd (omega arith)
-      by (Some (parity vs s)) is h e =
-          let wide : length vs ≡ w = sym (length-map vs positive) ∙ e in
-          let here = lawful_by_place m.switches (parity vs s) (every_nth (lawful m.switches) m.rules i (parity vs s) law.sound is) in (
-            le-ltb 5 (length vs) (omega arith),
-            ap (λ n. 2 ^ n / 2) (sym wide) ∙ sym (written_count vs s here.some) ∙ ap length (sym (append-nil (written_out vs s))),
-            power_small w narrow,
-          )
+      by : (b : Bool) → Some k ≡ cond b None (Some (length (expanded r))) → (length (clauses_of (r ∷ rules)) ≡ k + length (clauses_of rules)) × (cond b (Some i) (first_wide (i + 1) rules) ≡ first_wide (i + 1) rules)
+      by true h = cc
+      by false h = let same : k ≡ length (expanded r) = cc in (omega (arith, length-append (expanded r) (clauses_of rules)), refl)
+
+  pub wide_found : None ≡ records_for r → first_wide i (r ∷ rules) ≡ Some i
+  wide_found h = by (is_wide r) h
+    where
+      by : (b : Bool) → None ≡ cond b None (Some (length (expanded r))) → cond b (Some i) (first_wide (i + 1) rules) ≡ Some i
+      by true h = refl
+      by false h = cc

@@ -1,12 +1,10 @@
 pub mod Buffers
-pub mod Slots
-pub mod Values
 pub mod Puts
 pub mod Settings
-pub mod Told
-pub mod Fronts
-pub mod Counts
+pub mod Slots
+pub mod Values
 pub mod Refusals
+pub mod Counts
 pub mod Outcomes
 pub mod Entries
 pub mod Clauses

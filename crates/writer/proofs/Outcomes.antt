@@ -1,8 +1,9 @@
 -- The whole file in a buffer, and what comes of a sheet.
-use Rattle.std.proofs.Common.{◌≡◌, ℕ, ◌+◌, ◌*◌, ◌≤◌, Bool, true, false, cond, leb, List, ◌++◌, length, Some, None, Ok, Err, Option, Result, sym, refl, ap, ◌∙◌, subst, arith, length-append}
+use Rattle.std.proofs.Common.{◌≡◌, ℕ, ◌+◌, ◌*◌, ◌<◌, ◌≤◌, leb, List, [], ◌∷◌, ◌++◌, length, Some, None, Ok, Err, Option, sym, refl, ap, ◌∙◌, subst, arith, length-append}
 use Rattle.std.specs.List.{flat_map}
-use Rattle.std.proofs.lemmas.List.{append_assoc}
-use Rattle.std.proofs.lemmas.Bool.{leb-true, leb-false}
+use Rattle.std.proofs.lemmas.Grind.{flat_map-append}
+use Rattle.std.proofs.lemmas.Bool.{leb-true}
+use Rattle.rules.specs.declared.faults.Cause.TheVariants.{ShortBuffer}
 use Rattle.rules.specs.declared.literals.Literal.{Literal}
 use Rattle.rules.specs.declared.faults.Fault.{Fault}
 use Rattle.rules.specs.First.{verdict}
@@ -11,43 +12,61 @@ use Rattle.rules.proofs.Lawfuls.{passed}
 use Rattle.sheets.specs.Meaning.{Meaning}
 use Rattle.text.specs.Lent.{over_front}
 use Rattle.files.proofs.Steps.{other_value}
+use Rattle.writer.specs.declared.output.Output.{Output}
 use Rattle.writer.specs.Bytes.{record_bytes, over_at}
-use Rattle.writer.specs.Records.{Put}
-use Rattle.writer.specs.Expansion.{clauses_of}
-use Rattle.writer.specs.Writing.{head_bytes, end_bytes, file_bytes, first_year_bytes, first_wide, unless_wide, refusal, writing, Outcome}
-use Rattle.writer.specs.Parts.{record_count, Writable, room_for}
-use Rattle.writer.proofs.Buffers.{over_over, over_all}
-use Rattle.writer.proofs.Puts.{length_records}
+use Rattle.writer.specs.Output.{HasRoom, Puts}
+use Rattle.writer.specs.Expansion.{expanded, clauses_of}
+use Rattle.writer.specs.Writing.{rule_bytes, head_bytes, end_bytes, file_bytes, first_year_bytes, writer_fault, first_wide, unless_wide, refusal, writing, Outcome}
+use Rattle.writer.specs.Parts.{record_count, Writable}
+use Rattle.writer.proofs.Buffers.{over_all}
+use Rattle.writer.proofs.Puts.{room_front, room_then, puts_then}
+use Rattle.writer.proofs.Slots.{length_record}
 use Rattle.writer.proofs.Refusals.{all_narrow}
 
+flat_map_twice : {X Y Z : Type 0} (f : X → List Y) (g : Y → List Z) (xs : List X) → flat_map g (flat_map f xs) ≡ flat_map (λ x. flat_map g (f x)) xs
+flat_map_twice f g [] = refl
+flat_map_twice f g (x ∷ xs) = flat_map-append g (f x) (flat_map f xs) ∙ ap (λ l. flat_map g (f x) ++ l) (flat_map_twice f g xs)
+
+length_records : (cs : List (List Literal)) → length (flat_map record_bytes cs) ≡ 18 * length cs
+length_records [] = refl
+length_records (c ∷ cs) = omega (arith, length_records cs, length_record c, length-append (record_bytes c) (flat_map record_bytes cs))
+
 length_file : (n : ℕ) (cs : List (List Literal)) → length (file_bytes n cs) ≡ 8 + 18 * length cs
-length_file n cs =
-    let records = length_records cs in
-    let rest = length-append (flat_map record_bytes cs) (end_bytes (length cs)) in
-    omega arith
+length_file n cs = omega (arith, length_records cs, length-append (flat_map record_bytes cs) (end_bytes (length cs)))
 
 -- head, records and end, put one behind the other
-pub file_put : (n : ℕ) (cs : List (List Literal)) (old mid late new head tail : List ℕ) (r : ℕ) → head ≡ head_bytes n → tail ≡ end_bytes r → mid ≡ over_at old 0 head → Put cs 0 mid late r → new ≡ over_at late (4 + 18 * r) tail → new ≡ over_front (file_bytes n cs) old
-file_put n cs old mid late new head tail r front back begun put ended =
-    let records : List ℕ = flat_map record_bytes cs in
-    let count : r ≡ length cs = let h = put.count in omega arith in
-    let long = length_records cs in
-    let behind : 4 + 18 * r ≡ 0 + length (head_bytes n ++ records) = omega (arith, length-append (head_bytes n) records) in
-    let first : late ≡ over_at old 0 (head_bytes n ++ records) =
-    put.bytes ∙ ap (λ l. over_at l 4 records) (begun ∙ ap (over_at old 0) front) ∙ over_over old (head_bytes n) records 0 4 (omega arith) refl in
-    ended ∙ ap (over_at late (4 + 18 * r)) (back ∙ ap end_bytes count) ∙ ap (λ l. over_at l (4 + 18 * r) (end_bytes (length cs))) first
-    ∙ over_over old (head_bytes n ++ records) (end_bytes (length cs)) 0 (4 + 18 * r) (omega arith) behind
-    ∙ ap (over_at old 0) (append_assoc (head_bytes n) records (end_bytes (length cs)))
-    ∙ over_all old (file_bytes n cs)
+module _ (m : Meaning) (k : ℕ) (counted : k ≡ length (clauses_of m.rules)) (o a : Output) (empty : o.end ≡ 0) (room : length (first_year_bytes m) ≤ length o.buffer.now) (head : Puts (head_bytes m.switches) o a) where
+  parts : head_bytes m.switches ++ (flat_map rule_bytes m.rules ++ end_bytes k) ≡ first_year_bytes m
+  parts = ap (λ rs. head_bytes m.switches ++ (rs ++ end_bytes k)) (sym (flat_map_twice expanded record_bytes m.rules)) ∙ ap (λ n. head_bytes m.switches ++ (flat_map record_bytes (clauses_of m.rules) ++ end_bytes n)) counted
+
+  behind_head : HasRoom (flat_map rule_bytes m.rules ++ end_bytes k) a
+  behind_head =
+      let all : HasRoom (head_bytes m.switches ++ (flat_map rule_bytes m.rules ++ end_bytes k)) o = omega (arith, ap length parts, room, empty) in
+      room_then (head_bytes m.switches) (flat_map rule_bytes m.rules ++ end_bytes k) o a all head
+
+  pub records_room : HasRoom (flat_map rule_bytes m.rules) a
+  records_room = room_front (flat_map rule_bytes m.rules) (end_bytes k) a behind_head
+
+  module _ (b : Output) (records : Puts (flat_map rule_bytes m.rules) a b) where
+    pub end_room : HasRoom (end_bytes k) b
+    end_room = room_then (flat_map rule_bytes m.rules) (end_bytes k) a b behind_head records
+
+    pub file_put : (c : Output) → Puts (end_bytes k) b c → c.buffer.now ≡ over_front (first_year_bytes m) o.buffer.now
+    file_put c end =
+        let behind = puts_then (flat_map rule_bytes m.rules) (end_bytes k) a b c (omega (arith, behind_head)) records end in
+        let whole = puts_then (head_bytes m.switches) (flat_map rule_bytes m.rules ++ end_bytes k) o a c (omega (arith, room)) head behind in
+        whole.over
+        ∙ ap (λ n. over_at o.buffer.now n (head_bytes m.switches ++ (flat_map rule_bytes m.rules ++ end_bytes k))) empty
+        ∙ ap (over_at o.buffer.now 0) parts ∙ over_all o.buffer.now (first_year_bytes m)
 
 -- what a count tells of the refusals
 accepted : {X F : Type 0} (o : Option F) (x k : X) → Ok k ≡ verdict o x → (o ≡ None) × (k ≡ x)
 accepted None x k h = (refl, cc)
-accepted (Some f) x k h = let z : ◌≡◌ {A = ℕ} 0 1 = cc in absurd (omega arith)
+accepted (Some f) x k h = cc
 
 not_wide : (o : Option ℕ) (later : Option Fault) → unless_wide o later ≡ None → (o ≡ None) × (later ≡ None)
 not_wide None later h = (refl, h)
-not_wide (Some k) later h = let z : ◌≡◌ {A = ℕ} 0 1 = cc in absurd (omega arith)
+not_wide (Some k) later h = cc
 
 unrefused : (m : Meaning) → refusal m ≡ None → Writable m
 unrefused m h =
@@ -55,17 +74,6 @@ unrefused m h =
     let b = not_wide (first_wide 0 m.rules) _ a.1 in
     let c = passed (leb (length (clauses_of m.rules)) 1024) _ _ b.1 in
     record { some = a.0; narrow = all_narrow 0 m.rules b.0; few = leb-true _ _ c.0 }
-
-too_short : (b : Bool) (f e : Fault) → Err f ≡ cond {A = Result (Unit {0}) Fault} b (Ok tt) (Err e) → (b ≡ false) × (f ≡ e)
-too_short true f e h = let z : ◌≡◌ {A = ℕ} 0 1 = cc in absurd (omega arith)
-too_short false f e h = (refl, cc)
-
-long_enough : (b : Bool) (x : Unit {0}) (e : Fault) → Ok x ≡ cond {A = Result (Unit {0}) Fault} b (Ok tt) (Err e) → b ≡ true
-long_enough true x e h = refl
-long_enough false x e h = let z : ◌≡◌ {A = ℕ} 0 1 = cc in absurd (omega arith)
-
-pub room_enough : (long room : ℕ) (x : Unit {0}) → Ok x ≡ room_for long room → long ≤ room
-room_enough long room x h = leb-true long room (long_enough _ x _ h)
 
 module _ (m : Meaning) (old : List ℕ) where
   pub outcome_refused : (f : Fault) → Err f ≡ record_count m → Outcome (writing m) old old (Err f)
@@ -84,12 +92,8 @@ module _ (m : Meaning) (old : List ℕ) where
     pub length_written : length (first_year_bytes m) ≡ 8 + 18 * k
     length_written = length_file m.switches (clauses_of m.rules) ∙ ap (λ n. 8 + 18 * n) (sym count_is)
 
-    pub outcome_short : (f : Fault) → Err f ≡ room_for (8 + 18 * k) (length old) → Outcome (writing m) old old (Err f)
-    outcome_short f h =
-        let short = too_short (leb (8 + 18 * k) (length old)) f _ h in
-        let lacking = leb-false (8 + 18 * k) (length old) short.0 in
-        let long = length_written in
-        subst (λ w. Outcome w old old (Err f)) written_as (omega arith, short.1, refl)
+    pub outcome_short : length old < 8 + 18 * k → Outcome (writing m) old old (Err (writer_fault ShortBuffer 0))
+    outcome_short short = let long = length_written in subst (λ w. Outcome w old old (Err (writer_fault ShortBuffer 0))) written_as (omega arith, refl, refl)
 
     pub outcome_written : (new : List ℕ) → new ≡ over_front (first_year_bytes m) old → Outcome (writing m) old new (Ok (8 + 18 * k))
     outcome_written new h = subst (λ w. Outcome w old new (Ok (8 + 18 * k))) written_as (sym length_written, h)

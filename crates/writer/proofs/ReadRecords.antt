@@ -17,7 +17,7 @@ use Rattle.files.specs.Files.{switches_in, head_fault, end_fault, next_record, r
 use Rattle.files.specs.Slots.{clause_here, slots_here}
 use Rattle.writer.specs.Bytes.{slots, record_bytes}
 use Rattle.writer.specs.Writing.{end_bytes, file_bytes}
-use Rattle.writer.proofs.Puts.{length_slots, length_record}
+use Rattle.writer.proofs.Slots.{length_slots, length_record}
 use Rattle.writer.proofs.Entries.{two_bytes, padded, entry_of, entries_read, used_padded, gap_padded}
 use Rattle.writer.proofs.Clauses.{in_range, clause_some, clause_few, built_clause}
 

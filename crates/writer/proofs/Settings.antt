@@ -1,17 +1,22 @@
--- All settings of a few switches, numbered by patterns, and the clauses that they give.
-use Rattle.std.proofs.Common.{◌≡◌, ℕ, zero, suc, ◌+◌, ◌-◌, ◌/◌, ◌%◌, ◌^◌, ◌<◌, ◌≤◌, Bool, true, false, cond, eqb, List, [], ◌∷◌, ◌++◌, map, length, get_or, take, drop, filter, sym, refl, ap, ◌∙◌, ap₂, add-one, arith, length-append}
+-- All settings of a few switches, numbered by patterns, and the records that they give.
+use Rattle.std.proofs.Common.{◌≡◌, ℕ, zero, suc, ◌+◌, ◌-◌, ◌*◌, ◌/◌, ◌%◌, ◌^◌, ◌<◌, ◌≤◌, Bool, true, false, cond, eqb, List, [], ◌∷◌, ◌++◌, map, length, get_or, take, filter, sym, refl, ap, ◌∙◌, ap₂, add-one, arith, length-append}
 use native.Mathlib.Nat.{two-pow-succ}
 use lib.ListN.{length-map}
-use Rattle.std.specs.List.{range_with_len}
-use Rattle.std.proofs.lemmas.List.{map-append, take_all, take-append-drop}
-use Rattle.std.proofs.lemmas.List.Elements.{filter-append, filter_more}
+use Rattle.std.specs.List.{range_with_len, flat_map}
+use Rattle.std.proofs.lemmas.List.{take_all}
 use Rattle.std.proofs.lemmas.List.FromFn.{length-map-range_with_len, get_or-map-range_with_len, map-range_with_len_more, fill_by_all}
-use Rattle.std.proofs.lemmas.Nat.{shr-shr}
+use Rattle.std.proofs.lemmas.Nat.{shr-shr, one_shl}
 use Rattle.rules.specs.declared.literals.Literal.{Literal}
 use Rattle.rules.specs.declared.kinds.Side.{Side}
-use Rattle.parity_theory.specs.Writing.{settings, off_side, against, written_out}
+use Rattle.rules.specs.Constraints.{parity}
+use Rattle.parity_theory.specs.Writing.{settings, off_side, against}
 use Rattle.parity_theory.proofs.Settings.{with_last, both_ends, settings_by_last}
-use Rattle.writer.specs.Patterns.{value, values, clause_for}
+use Rattle.writer.specs.declared.output.Output.{Output}
+use Rattle.writer.specs.Bytes.{record_bytes}
+use Rattle.writer.specs.Output.{HasRoom, Puts}
+use Rattle.writer.specs.Patterns.{value, values}
+use Rattle.writer.specs.Writing.{rule_bytes}
+use Rattle.writer.proofs.Puts.{room_next, puts_next}
 
 pub length_settings : (n : ℕ) → length (settings n) ≡ 2 ^ n
 length_settings zero = refl
@@ -42,7 +47,7 @@ value_last w p =
     let whole : p / 1 ≡ p = omega arith in
     ap (λ k. eqb (p / 2 ^ k % 2) 1) shift ∙ ap (λ q. eqb (q % 2) 1) whole
 
-values_last : (w p : ℕ) → values (suc w) p ≡ with_last (eqb (p % 2) 1) (values w (p / 2))
+pub values_last : (w p : ℕ) → values (suc w) p ≡ with_last (eqb (p % 2) 1) (values w (p / 2))
 values_last w p =
     let front : map (value (suc w) p) (range_with_len 0 w) ≡ values w (p / 2) =
     fill_by_all (value w (p / 2)) (map (value (suc w) p) (range_with_len 0 w)) w false (length-map-range_with_len (value (suc w) p) 0 w)
@@ -57,41 +62,55 @@ values_at (suc w) p h =
     let sized = length_settings w in
     ap (λ ss. get_or ss p []) (settings_by_last w) ∙ get_or_both_ends (settings w) p (omega arith) ∙ ap (with_last (eqb (p % 2) 1)) (values_at w (p / 2) (omega arith)) ∙ sym (values_last w p)
 
--- the clauses of a parity rule for the patterns below p
-abbrev pub below : List ℕ → Side → ℕ → List (List Literal)
-below vs side p = map (against vs) (filter (off_side side) (take p (settings (length vs))))
+-- the record of the clause for the values bs; none, where they keep the parity rule
+abbrev pub clause_bytes : List ℕ → Side → List Bool → List ℕ
+clause_bytes vs side bs = cond (off_side side bs) (record_bytes (against vs bs)) []
 
-map_cond : {X Y : Type 0} (f : X → Y) (b : Bool) (x : X) → map f (cond b (x ∷ []) []) ≡ cond b (f x ∷ []) []
-map_cond f true x = refl
-map_cond f false x = refl
+flat_map_kept : {X Y Z : Type 0} (g : Y → List Z) (h : X → Y) (p : X → Bool) (xs : List X) → flat_map g (map h (filter p xs)) ≡ flat_map (λ x. cond (p x) (g (h x)) []) xs
+flat_map_kept g h p [] = refl
+flat_map_kept g h p (x ∷ xs) = by (p x) (flat_map_kept g h p xs)
+  where
+    by : (b : Bool) → flat_map g (map h (filter p xs)) ≡ flat_map (λ y. cond (p y) (g (h y)) []) xs → flat_map g (map h (cond b (x ∷ filter p xs) (filter p xs))) ≡ cond b (g (h x)) [] ++ flat_map (λ y. cond (p y) (g (h y)) []) xs
+    by true e = ap (λ l. g (h x) ++ l) e
+    by false e = e
 
--- not more than all of them
-below_few : (vs : List ℕ) (side : Side) (p : ℕ) → length (below vs side p) ≤ length (written_out vs side)
-below_few vs side p =
-    let ss : List (List Bool) = settings (length vs) in
-    let parts : filter (off_side side) ss ≡ filter (off_side side) (take p ss) ++ filter (off_side side) (drop p ss) =
-    ap (filter (off_side side)) (sym (take-append-drop p ss)) ∙ filter-append (off_side side) (take p ss) (drop p ss) in
-    omega (arith, length-map (filter (off_side side) (take p ss)) (against vs), length-map (filter (off_side side) ss) (against vs), ap length parts, length-append (filter (off_side side) (take p ss)) (filter (off_side side) (drop p ss)))
+pub parity_bytes : (vs : List ℕ) (side : Side) → flat_map (clause_bytes vs side) (settings (length vs)) ≡ rule_bytes (parity vs side)
+parity_bytes vs side = sym (flat_map_kept record_bytes (against vs) (off_side side) (settings (length vs)))
 
-module _ (vs : List ℕ) (side : Side) (w : ℕ) (wide : length vs ≡ w) where
-  pub below_more : (p : ℕ) → p < 2 ^ w → below vs side (p + 1) ≡ below vs side p ++ clause_for vs side (values w p)
-  below_more p h =
-      let sized = length_settings w in
-      let ss : List (List Bool) = settings w in
-      let this : get_or ss p [] ≡ values w p = values_at w p h in
-      let step : map (against vs) (filter (off_side side) (take (p + 1) ss)) ≡ map (against vs) (filter (off_side side) (take p ss)) ++ clause_for vs side (values w p) =
-      ap (map (against vs)) (filter_more (off_side side) ss p [] (omega arith))
-      ∙ map-append (against vs) (filter (off_side side) (take p ss)) _
-      ∙ ap (λ l. map (against vs) (filter (off_side side) (take p ss)) ++ l) (map_cond (against vs) (off_side side (get_or ss p [])) (get_or ss p []) ∙ ap (clause_for vs side) this) in
-      ap (λ n. map (against vs) (filter (off_side side) (take (p + 1) (settings n)))) wide ∙ step ∙ ap (λ n. map (against vs) (filter (off_side side) (take p (settings n))) ++ clause_for vs side (values w p)) (sym wide)
+-- the records for the patterns below p, put behind what o has; vs are the switches ws, as the code has them
+module _ (vs ws : List ℕ) (side : Side) (same : vs ≡ ws) (few : length ws ≤ 5) (o m : Output) (room : HasRoom (rule_bytes (parity ws side)) o) (p : ℕ) (put : Puts (flat_map (clause_bytes vs side) (take p (settings (length vs)))) o m) where
+  all_patterns : 1 * 2 ^ length vs % 2 ^ 64 ≡ 2 ^ length vs
+  all_patterns = one_shl (length vs) 64 (omega (arith, ap length same))
 
-  pub below_all : (p : ℕ) → 2 ^ w ≤ p → below vs side p ≡ written_out vs side
-  below_all p h =
-      let sized = length_settings (length vs) ∙ ap (λ n. 2 ^ n) wide in
-      ap (λ ss. map (against vs) (filter (off_side side) ss)) (take_all p (settings (length vs)) (omega arith))
+  whole : flat_map (clause_bytes vs side) (settings (length vs)) ≡ rule_bytes (parity ws side)
+  whole = parity_bytes vs side ∙ ap (λ us. rule_bytes (parity us side)) same
 
-  pub below_room : (p : ℕ) → p < 2 ^ w → length (below vs side p) + length (clause_for vs side (values w p)) ≤ length (written_out vs side)
-  below_room p h =
-      let all = below_few vs side (p + 1) in
-      let both = ap length (below_more p h) ∙ length-append (below vs side p) (clause_for vs side (values w p)) in
-      omega arith
+  module _ (below : p < 1 * 2 ^ length vs % 2 ^ 64) where
+    pub within : p < 2 ^ length vs
+    within = let all = all_patterns in omega arith
+
+    all_room : HasRoom (flat_map (clause_bytes vs side) (settings (length vs))) o
+    all_room = rw whole room
+
+    -- what is put for the pattern p, which breaks the rule or does not
+    bytes_of : (b : Bool) → b ≡ off_side side (values (length vs) p) → clause_bytes vs side (get_or (settings (length vs)) p []) ≡ cond b (record_bytes (against vs (values (length vs) p))) []
+    bytes_of b e = ap (clause_bytes vs side) (values_at (length vs) p within) ∙ ap (λ c. cond c (record_bytes (against vs (values (length vs) p))) []) (sym e)
+
+    pub pattern_room : (ls : List Literal) → ls ≡ against vs (values (length vs) p) → true ≡ off_side side (values (length vs) p) → HasRoom (record_bytes ls) m
+    pattern_room ls is e =
+        let sized = length_settings (length vs) in
+        let at = within in
+        let here = room_next (clause_bytes vs side) (settings (length vs)) p [] o m all_room put (omega arith) in
+        rw is (rw (bytes_of true e) at here)
+
+    pub pattern_put : (b : Bool) (n : Output) → b ≡ off_side side (values (length vs) p) → Puts (cond b (record_bytes (against vs (values (length vs) p))) []) m n → Puts (flat_map (clause_bytes vs side) (take (p + 1) (settings (length vs)))) o n
+    pattern_put b n e more =
+        let sized = length_settings (length vs) in
+        let at = within in
+        puts_next (clause_bytes vs side) (settings (length vs)) p [] o m all_room put (omega arith) n (rw (bytes_of b e) more)
+
+  pub patterns_put : 1 * 2 ^ length vs % 2 ^ 64 ≤ p → Puts (rule_bytes (parity ws side)) o m
+  patterns_put past =
+      let sized = length_settings (length vs) in
+      let all = all_patterns in
+      rw (take_all p (settings (length vs)) (omega arith), whole) at put

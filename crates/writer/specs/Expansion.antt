@@ -1,10 +1,8 @@
 -- The clauses that the rules of a sheet are written as.
-use Rattle.std.specs.Prelude.{ℕ, Bool, false, not, List, [], ◌∷◌, length, nat_lt}
-use Rattle.std.specs.List.{slice_get, flat_map}
-use Rattle.std.specs.Option.{option_to_list}
+use Rattle.std.specs.Prelude.{Bool, false, not, List, [], ◌∷◌, length, nat_lt}
+use Rattle.std.specs.List.{flat_map}
 use Rattle.rules.specs.declared.literals.Literal.{Literal}
 use Rattle.rules.specs.Constraints.{Constraint, clause, parity}
-use Rattle.sheets.specs.Meaning.{Meaning}
 use Rattle.parity_theory.specs.Writing.{written_out}
 
 -- a clause is itself, and a parity rule one clause for each setting of its switches that breaks it
@@ -15,10 +13,6 @@ expanded (parity vs side) = written_out vs side
 -- the clauses of all rules, in the order of the rules
 abbrev pub clauses_of : List Constraint → List (List Literal)
 clauses_of rules = flat_map expanded rules
-
--- the clauses of rule i; none, where there is no rule i
-abbrev pub clauses_at : Meaning → ℕ → List (List Literal)
-clauses_at m i = clauses_of (option_to_list (slice_get m.rules i))
 
 -- a parity rule of more than five switches is not written out
 abbrev pub is_wide : Constraint → Bool

@@ -1,6 +1,6 @@
 pub mod Bytes
 pub mod Patterns
-pub mod Records
+pub mod Output
 pub mod Expansion
 pub mod Writing
 pub mod Parts

@@ -13,7 +13,7 @@ use Rattle.rules.specs.Lawful.{inside}
 use Rattle.sheets.specs.Meaning.{Meaning}
 use Rattle.text.specs.Lent.{Written}
 use Rattle.writer.specs.Bytes.{low_high, record_bytes}
-use Rattle.writer.specs.Expansion.{clauses_of, is_wide}
+use Rattle.writer.specs.Expansion.{expanded, clauses_of, is_wide}
 
 -- THE FILE: the head F 1 with the number of switches, a record for each clause, and the end E N with the number of records
 
@@ -24,6 +24,10 @@ head_bytes n = 70 ∷ 49 ∷ low_high n
 -- E N (45 4E) and the number of records
 abbrev pub end_bytes : ℕ → List ℕ
 end_bytes k = 69 ∷ 78 ∷ low_high k
+
+-- the records of the clauses that a rule is written as
+abbrev pub rule_bytes : Constraint → List ℕ
+rule_bytes r = flat_map record_bytes (expanded r)
 
 -- the file of clauses over n switches
 abbrev pub file_bytes : ℕ → List (List Literal) → List ℕ

@@ -1,37 +1,27 @@
 // Any sheet as a first-year file in a lent buffer.
-ghost use Rattle.std.specs.Prelude.{◌≡◌, ◌+◌, ◌*◌, ◌≤◌, length};
+ghost use Rattle.std.specs.Prelude.{◌≡◌, ◌≤◌, length};
 ghost use Rattle.text.specs.Lent.{over_front};
 ghost use Rattle.writer.specs.Expansion.{clauses_of};
 ghost use Rattle.writer.specs.Writing.{first_year_bytes, writing, Outcome};
-ghost use Rattle.writer.specs.Parts.{Writable, room_for};
+ghost use Rattle.writer.specs.Parts.{Writable};
 ghost use Rattle.writer.specs.ReadBack.{ReadsBack};
 
-use crate::counting::{check_sheet, refuse};
-use crate::expansion::put_rules;
-use crate::records::put;
-use rules::faults::{Cause, Fault};
+use crate::counting::check_sheet;
+use crate::output::Output;
+use rules::faults::{Cause, Fault, Layer};
 use sheets::sheet::Sheet;
 
-// A buffer of `room` bytes takes a file of `length` bytes, or is too short.
-fn check_room(room: usize, length: usize) -> Result<(), Fault>
-    ensures { result ≡ room_for length room }
-{
-    if room < length {
-        return Err(refuse(Cause::ShortBuffer, 0));
-    }
-    Ok(())
-}
-
 // Head, records and end, where there is room for them.
-fn put_file<S: Sheet>(out: &mut [u8], sheet: &S)
-    requires { (Writable (S.Sheet.meaning sheet.now)) × (8 + 18 * length (clauses_of (S.Sheet.meaning sheet.now).rules) ≤ length out.old) }
+fn put_file<S: Sheet>(sheet: &S, records: usize, out: &mut [u8])
+    requires writable { Writable (S.Sheet.meaning sheet.now) }
+    requires counted { records ≡ length (clauses_of (S.Sheet.meaning sheet.now).rules) }
+    requires room { length (first_year_bytes (S.Sheet.meaning sheet.now)) ≤ length out.old }
     ensures { out.new ≡ over_front (first_year_bytes (S.Sheet.meaning sheet.now)) out.old }
 {
-    let [low, high] = sheet.switches().to_le_bytes();
-    put(out, 0, &[b'F', b'1', low, high]);
-    let records = put_rules(out, sheet);
-    let [low, high] = (records as u16).to_le_bytes();
-    put(out, 4 + 18 * records, &[b'E', b'N', low, high]);
+    let mut file = Output::new(out);
+    file.put_numbered(b"F1", sheet.switches());
+    file.put_rules(sheet);
+    file.put_numbered(b"EN", records as u16);
 }
 
 // The file of the sheet at the front of the buffer, and its length; what lies behind it in the buffer stays. Nothing is written where the sheet is refused or the buffer is shorter than the file. What was written passes the first-year check and means a sheet of as many switches that the same settings keep.
@@ -41,7 +31,9 @@ pub fn write_first_year<S: Sheet>(sheet: &S, out: &mut [u8]) -> Result<usize, Fa
 {
     let records = check_sheet(sheet)?;
     let length = 8 + 18 * records;
-    check_room(out.len(), length)?;
-    put_file(out, sheet);
+    if out.len() < length {
+        return Err(Layer::Writer.fault(Cause::ShortBuffer, 0, 0));
+    }
+    put_file(sheet, records, out);
     Ok(length)
 }

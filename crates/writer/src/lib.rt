@@ -4,6 +4,5 @@
 mod counting;
 mod expansion;
 pub mod first_year;
+mod output;
 mod patterns;
-mod reading;
-mod records;

@@ -1,17 +1,30 @@
-use Rattle.std.proofs.Common.{ℕ, List, [], ◌∷◌, get_or, ap, ◌∙◌}
-use Rattle.writer.specs.Expansion.{clauses_of}
-use Rattle.writer.specs.Writing.{head_bytes}
-use Rattle.writer.proofs.Outcomes.{file_put}
+use Rattle.std.proofs.Common.{◌≡◌, ◌≤◌, length, ap, ◌∙◌, rules, arith}
+use Rattle.text.specs.Lent.{over_front}
+use Rattle.writer.specs.Writing.{head_bytes, first_year_bytes}
+use Rattle.writer.specs.Output.{Puts}
+use Rattle.writer.proofs.Outcomes.{records_room, end_room, file_put}
 use Rattle.writer.proofs.first_year.put_file.Goals as goal
 
--- a mark and the two bytes of a number
-with_mark : ℕ → ℕ → List ℕ → List ℕ
-with_mark a b s = a ∷ b ∷ get_or s 0 0 ∷ get_or s 1 0 ∷ []
+pub put_rules-requires-clause-room : goal.put_rules-requires-clause-room
+put_rules-requires-clause-room g c =
+    let m = g.S.Sheet.meaning c.args.sheet.now in
+    let room : length (first_year_bytes m) ≤ length c.new-file.result.buffer.now = omega (arith, c.requires.room, ap length c.new-file.ensures.same_bytes) in
+    let head : Puts (head_bytes m.switches) c.new-file.result c.put_numbered.new.self = search rules in
+    records_room m c.args.records c.requires.counted c.new-file.result c.put_numbered.new.self c.new-file.ensures.none room head
+
+pub put_numbered-requires-2 : goal.put_numbered-requires-2
+put_numbered-requires-2 g c =
+    let m = g.S.Sheet.meaning c.args.sheet.now in
+    let room : length (first_year_bytes m) ≤ length c.new-file.result.buffer.now = omega (arith, c.requires.room, ap length c.new-file.ensures.same_bytes) in
+    let head : Puts (head_bytes m.switches) c.new-file.result c.put_numbered.new.self = search rules in
+    end_room m c.args.records c.requires.counted c.new-file.result c.put_numbered.new.self c.new-file.ensures.none room head c.put_rules.new.self c.put_rules.ensures
 
 pub returns : goal.returns
-unfolding with_mark
 returns g c =
-    file_put (g.S.Sheet.meaning c.args.sheet.now).switches (clauses_of (g.S.Sheet.meaning c.args.sheet.now).rules) c.args.out.now c.put.new.out c.put_rules-records.new.out c.put-2.new.out
-    (with_mark 70 49 c.to_le_bytes.result) (with_mark 69 78 c.to_le_bytes-2.result) c.put_rules-records.result
-    (ap (with_mark 70 49) c.to_le_bytes.ensures ∙ ap head_bytes c.switches.ensures) (ap (with_mark 69 78) c.to_le_bytes-2.ensures)
-    c.put.ensures c.put_rules-records.ensures c.put-2.ensures
+    let m = g.S.Sheet.meaning c.args.sheet.now in
+    let room : length (first_year_bytes m) ≤ length c.new-file.result.buffer.now = omega (arith, c.requires.room, ap length c.new-file.ensures.same_bytes) in
+    let head : Puts (head_bytes m.switches) c.new-file.result c.put_numbered.new.self = search rules in
+    let put : c.put_numbered-2.new.self.buffer.now ≡ over_front (first_year_bytes m) c.args.out.now =
+    file_put m c.args.records c.requires.counted c.new-file.result c.put_numbered.new.self c.new-file.ensures.none room head c.put_rules.new.self c.put_rules.ensures c.put_numbered-2.new.self c.put_numbered-2.ensures
+    ∙ ap (over_front (first_year_bytes m)) c.new-file.ensures.same_bytes in
+    search rules

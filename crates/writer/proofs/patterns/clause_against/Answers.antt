@@ -1,14 +1,16 @@
-use Rattle.std.proofs.Common.{false, not, get_or, ap, arith, length-set}
-use Rattle.writer.proofs.Values.{against_more, against_all}
+use Rattle.std.proofs.Common.{◌∙◌, arith}
+use Rattle.std.proofs.lemmas.List.{take_all}
+use Rattle.writer.proofs.Values.{whole, length_whole, against_more}
 use Rattle.writer.proofs.patterns.clause_against.Goals as goal
 
 pub loop-j-preserved : goal.loop-j-preserved
-loop-j-preserved c = (
-  simp length-set c.loop-j.invariant.0,
-  against_more c.args.switches.now c.args.pattern c.loop-j.clause c.loop-j.j (record { switch = 0; on = false }) _ c.loop-j-test.true (omega (arith, c.requires, c.loop-j.invariant.0))
-      (ap (λ b. record { switch = (get_or c.args.switches.now c.loop-j.j (record { switch = 0; on = false })).switch; on = not b }) c.is_on.ensures)
-      c.loop-j.invariant.1,
-)
+loop-j-preserved c =
+    record {
+      width = omega arith;
+      literals = against_more c.args.switches.now c.args.pattern c.loop-j.j c.is_on.result _ _ c.loop-j-test.true c.is_on.ensures c.loop-j.invariant.literals c.push.ensures.more;
+    }
 
 pub returns : goal.returns
-returns c = against_all c.args.switches.now c.args.pattern c.loop-j.clause c.loop-j.j (omega arith) c.loop-j.invariant.1
+returns c =
+    let long = length_whole c.args.switches.now c.args.pattern in
+    c.loop-j.invariant.literals ∙ take_all c.loop-j.j (whole c.args.switches.now c.args.pattern) (omega arith)
