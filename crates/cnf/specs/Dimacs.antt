@@ -1,5 +1,5 @@
 -- A sheet in DIMACS CNF: clauses as stock solvers read them, parity rules as lines that begin with x.
-use Rattle.std.specs.Prelude.{ℕ, cond, List, [], ◌++◌, length, Some, None, codes, decimal, Option}
+use Rattle.std.specs.Prelude.{ℕ, cond, List, [], ◌++◌, length, codes, decimal}
 use Rattle.std.specs.List.{flat_map}
 use Rattle.rules.specs.declared.literals.Literal.{Literal}
 use Rattle.rules.specs.declared.kinds.Kind.{Kind}
@@ -7,11 +7,6 @@ use Rattle.rules.specs.declared.kinds.Kind.TheVariants.{Clause, Parity}
 use Rattle.rules.specs.declared.kinds.Side.TheVariants.{Even, Odd}
 use Rattle.rules.specs.Constraints.{Constraint, kind, entries}
 use Rattle.sheets.specs.Meaning.{Meaning}
-
--- the text of what may be absent
-abbrev pub optional : {X : Type 0} → (X → List ℕ) → Option X → List ℕ
-optional f None = []
-optional f (Some x) = f x
 
 -- a literal as a number with its sign, and a space
 abbrev pub entry_text : Literal → List ℕ

@@ -1,102 +1,121 @@
 // The text of a sheet: a head, and a line for each rule.
-ghost use Rattle.std.specs.Prelude.{◌≡◌, ◌++◌, IfOk, string_bytes, OnOk};
-ghost use Rattle.std.specs.List.{slice_get, flat_map};
-ghost use Rattle.sheets.specs.Meaning.{entries_in};
+ghost use Rattle.std.specs.Prelude.{Some, map};
+ghost use Rattle.std.specs.List.{flat_map};
+ghost use Rattle.rules.specs.Constraints.{positive};
+ghost use Rattle.rules.specs.Views.{constraint};
 ghost use Rattle.text.specs.Lent.{WrittenOr};
-ghost use Rattle.cnf.specs.Dimacs.{optional, entry_text, rule_line, prefix, cnf_text};
+ghost use Rattle.cnf.specs.Dimacs.{entry_text, prefix, rule_line, cnf_text};
 
 use rules::kinds::{Kind, Side};
 use rules::literals::Literal;
+use rules::rule::Rule;
+use sheets::rules_of::Rules;
 use sheets::sheet::Sheet;
-use std::alloc::{AllocError, Global};
+use std::alloc::Global;
+use std::fmt;
+use text::each::write_each;
 use text::errors::TextError;
-use text::lent::put_text;
+use text::lent::write_text;
 
 // A literal as a number with its sign, and a space.
-fn entry_text(heap: Global, literal: Literal) -> Result<String, AllocError>
-    ensures { IfOk result (λ s. string_bytes s ≡ entry_text literal) }
-{
-    let switch = literal.switch;
-    if literal.on {
-        format!(in heap; "{switch} ")
-    } else {
-        format!(in heap; "-{switch} ")
-    }
-}
+#[derive(Clone, Copy)]
+struct Entry(Literal);
 
-// What a line opens with: nothing for a clause, x for an odd parity rule, x- for an even one.
-fn prefix_of(kind: Kind) -> &'static str
-    ensures { result.now ≡ prefix kind }
-{
-    match kind {
-        Kind::Clause => "",
-        Kind::Parity(Side::Odd) => "x",
-        Kind::Parity(Side::Even) => "x-",
-    }
-}
+impl fmt::Display for Entry {
+    ghost output = { λ e. Some (entry_text e.0) };
 
-fn push_entry(heap: Global, entry: Option<Literal>, text: &mut String) -> Result<(), AllocError>
-    ensures { OnOk result (string_bytes text.new ≡ string_bytes text.old ++ optional entry_text «entry») }
-{
-    match entry {
-        Some(literal) => {
-            let piece = entry_text(heap, literal)?;
-            text.push_str(piece.as_str())
+    fn fmt<W: fmt::Write>(&self, f: &mut fmt::Formatter<W>) -> fmt::Result {
+        let Literal { switch, on } = self.0;
+        if on {
+            write!(f, "{switch} ")
+        } else {
+            write!(f, "-{switch} ")
         }
-        None => Ok(()),
     }
 }
 
-// The entries of rule i; no rule has more than 16.
-fn push_entries<S: Sheet>(
-    heap: Global,
-    sheet: &S,
-    i: usize,
-    text: &mut String,
-) -> Result<(), AllocError>
-    ensures { OnOk result (string_bytes text.new ≡ string_bytes text.old ++ flat_map entry_text (entries_in (slice_get (S.Sheet.meaning sheet.now).rules i))) }
-{
-    for j in 0..16usize {
-        push_entry(heap, sheet.entry(i, j), text)?;
+// Literals, one behind the other.
+#[derive(Clone, Copy)]
+struct Literals<'a>(&'a [Literal]);
+
+impl fmt::Display for Literals<'_> {
+    ghost output = { λ ls. Some (flat_map entry_text ls.0.now) };
+
+    fn fmt<W: fmt::Write>(&self, f: &mut fmt::Formatter<W>) -> fmt::Result {
+        write_each(f, self.0.iter().map(|literal| Entry(*literal)))
     }
-    Ok(())
 }
 
-// The line of rule i, where there is one.
-fn push_rule<S: Sheet>(
-    heap: Global,
-    sheet: &S,
-    i: usize,
-    text: &mut String,
-) -> Result<(), AllocError>
-    ensures { OnOk result (string_bytes text.new ≡ string_bytes text.old ++ optional rule_line (slice_get (S.Sheet.meaning sheet.now).rules i)) }
-{
-    let Some(kind) = sheet.kind(i) else {
-        return Ok(());
-    };
-    text.push_str(prefix_of(kind))?;
-    push_entries(heap, sheet, i, text)?;
-    text.push_str("0\n")?;
-    Ok(())
+// Switches, as their positive literals.
+#[derive(Clone, Copy)]
+struct Switches<'a>(&'a [u16]);
+
+impl fmt::Display for Switches<'_> {
+    ghost output = { λ vs. Some (flat_map entry_text (map positive vs.0.now)) };
+
+    fn fmt<W: fmt::Write>(&self, f: &mut fmt::Formatter<W>) -> fmt::Result {
+        write_each(
+            f,
+            self.0.iter().map(|switch| {
+                Entry(Literal {
+                    switch: *switch,
+                    on: true,
+                })
+            }),
+        )
+    }
 }
 
-fn cnf_text<S: Sheet>(heap: Global, sheet: &S) -> Result<String, AllocError>
-    ensures { IfOk result (λ s. string_bytes s ≡ cnf_text (S.Sheet.meaning sheet.now)) }
-{
-    let n = sheet.switches();
-    let m = sheet.count();
-    let mut text = format!(in heap; "p cnf {n} {m}\n")?;
-    for i in 0..m {
-        push_rule(heap, sheet, i, &mut text)?;
+// What the line of a rule opens with: nothing for a clause, x for an odd parity rule, x- for an even one.
+#[derive(Clone, Copy)]
+struct Opening(Kind);
+
+impl fmt::Display for Opening {
+    ghost output = { λ o. Some (prefix o.0) };
+
+    fn fmt<W: fmt::Write>(&self, f: &mut fmt::Formatter<W>) -> fmt::Result {
+        f.write_str(match self.0 {
+            Kind::Clause => "",
+            Kind::Parity(Side::Odd) => "x",
+            Kind::Parity(Side::Even) => "x-",
+        })
     }
-    Ok(text)
+}
+
+// The line of a rule.
+#[derive(Clone, Copy)]
+struct Line(Rule);
+
+impl fmt::Display for Line {
+    ghost output = { λ l. Some (rule_line (constraint l.0)) };
+
+    fn fmt<W: fmt::Write>(&self, f: &mut fmt::Formatter<W>) -> fmt::Result {
+        let opening = Opening(self.0.kind());
+        match &self.0 {
+            Rule::Clause(clause) => writeln!(f, "{opening}{}0", Literals(clause.literals())),
+            Rule::Parity(parity) => writeln!(f, "{opening}{}0", Switches(parity.switches())),
+        }
+    }
+}
+
+// A sheet in DIMACS CNF.
+#[derive(Clone, Copy)]
+struct Dimacs<'a, S>(&'a S);
+
+impl<S: Sheet> fmt::Display for Dimacs<'_, S> {
+    ghost output = { λ d. Some (cnf_text (S.Sheet.meaning d.0.now)) };
+
+    fn fmt<W: fmt::Write>(&self, f: &mut fmt::Formatter<W>) -> fmt::Result {
+        let n = self.0.switches();
+        let m = self.0.count();
+        writeln!(f, "p cnf {n} {m}")?;
+        write_each(f, Rules::of(self.0).map(Line))
+    }
 }
 
 // The sheet in DIMACS CNF at the front of the buffer; its length is told, and the buffer beyond is left.
 pub fn write_cnf<S: Sheet>(heap: Global, sheet: &S, out: &mut [u8]) -> Result<usize, TextError>
     ensures { WrittenOr (cnf_text (S.Sheet.meaning sheet.now)) out.old out.new result }
 {
-    let text = cnf_text(heap, sheet)?;
-    let length = put_text(out, text.as_bytes())?;
-    Ok(length)
+    write_text(heap, Dimacs(sheet), out)
 }

@@ -1,8 +1,7 @@
 // Items printed one after the other.
-ghost use Rattle.std.specs.Prelude.{OnOk};
+ghost use Rattle.std.specs.Prelude.{List, OnOk};
 ghost use Rattle.std.specs.Fmt.{DisplaysOnOk};
-ghost use Rattle.std.specs.Iterator.{IsFinite};
-ghost use Rattle.std.specs.Iterator.Runs.{WholeRun};
+ghost use Rattle.std.specs.Iterator.{IsFinite, Drains};
 ghost use Rattle.text.specs.Joined.{joined};
 
 use std::fmt;
@@ -14,8 +13,8 @@ where
     I::Item: fmt::Display + Drop,
     requires can { I.can_next items }
     requires ends { IsFinite (I.remaining items) }
-    ensures { OnOk result
-        (WholeRun I.next_gives items (λ run. DisplaysOnOk W.write_str_gives f.old result (joined I.Item.output run.items) f.new)) }
+    ensures { OnOk result ((xs : List I.Item) × Drains I.next_gives items xs
+        × DisplaysOnOk W.write_str_gives f.old result (joined I.Item.output xs) f.new) }
 {
     for item in items {
         write!(f, "{item}")?;

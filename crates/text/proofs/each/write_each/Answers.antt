@@ -1,6 +1,5 @@
-use Rattle.std.proofs.Common.{Ok, sym, subst, ◌∙◌, rules}
-use Rattle.std.specs.Fmt.{DisplaysOnOk}
-use Rattle.std.proofs.iter.runs.Made.{run_of_exit}
+use Rattle.std.proofs.Common.{subst, rules}
+use Rattle.std.specs.Iterator.{Drains}
 use Rattle.text.specs.Joined.{joined}
 use Rattle.text.proofs.Shown.{Shown, joined_more, shown_more, shown_ok}
 use Rattle.text.proofs.each.write_each.Goals as goal
@@ -17,8 +16,7 @@ loop-item-preserved g c =
 
 pub returns : goal.returns
 returns g c =
-    let text = g.I.Item.Display.output in
     let took = g.W.Write.write_str_gives in
-    let run = run_of_exit g.I.Iterator.next_gives c.into_iter-item-iterator.result c.loop-item.yielded c.loop-item.item-iterator c.loop-item.yielded_by c.next.new.self c.in-None.ensures.steps in
-    let all = shown_ok took _ _ _ tt c.loop-item.invariant.2 in
-    (run.0, run.1 ∙ c.into_iter-item-iterator.ensures.into_iter_gives, run.2, subst (λ xs. DisplaysOnOk took c.args.f.now (Ok tt) (joined text xs) c.loop-item.f) (sym run.3.0) all)
+    let first = c.into_iter-item-iterator.ensures.into_iter_gives in
+    let ran = subst (λ s. Drains g.I.Iterator.next_gives s c.loop-item.yielded) first (c.next.new.self, (c.loop-item.item-iterator, c.loop-item.yielded_by, c.in-None.ensures.steps)) in
+    (c.loop-item.yielded, ran, shown_ok took _ _ _ tt c.loop-item.invariant.2)
