@@ -13,7 +13,7 @@ use rules::kinds::{Kind, Side};
 use rules::parities::Parity;
 use rules::rule::Rule;
 
-// Rule i, which is a clause.
+// Rule i, which is a clause. It keeps the literals that are told, and a parity rule keeps their switches, so each has its own loop.
 fn clause_at<S: Sheet>(sheet: &S, i: usize) -> Clause
     requires { told_kind (S.Sheet.meaning sheet.now) i ≡ Some Kind.Clause }
     ensures { Some (clause_constraint result) ≡ slice_get (S.Sheet.meaning sheet.now).rules i }

@@ -61,7 +61,7 @@ pub fn blank_table(heap: Global) -> Table
     }
 }
 
-// The table of these rules over n switches, blank where it would be refused.
+// The table of these rules over n switches, blank where it would be refused. The loop is that of the check, which takes no memory and so keeps no rule.
 pub fn make_table(heap: Global, n: u16, rules: &[RawRule]) -> Result<Table, AllocError>
     ensures { IfOk result (λ t. tabled t ≡ or_blank (table n (map draft rules.now))) }
 {

@@ -8,6 +8,8 @@ use Rattle.sheets.proofs.Tabled.{prefixed}
 use Rattle.sheets.proofs.tabling.make_table.Given as goal
 
 abbrev pub invariant-loop-i : goal.invariant-loop-i
-invariant-loop-i l =
-    (vec_len l.built ≡ l.i) × (every (lawful l.n) (map constraint (vec_items l.built)) ≡ true)
-    × (prefixed (map constraint (vec_items l.built)) (table_rules l.n l.i (map draft (drop l.i l.rules))) ≡ table_rules l.n 0 (map draft l.rules))
+invariant-loop-i l = record {
+  counted : vec_len l.built ≡ l.i;
+  lawful : every (lawful l.n) (map constraint (vec_items l.built)) ≡ true;
+  rest : prefixed (map constraint (vec_items l.built)) (table_rules l.n l.i (map draft (drop l.i l.rules))) ≡ table_rules l.n 0 (map draft l.rules);
+}
