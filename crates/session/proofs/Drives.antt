@@ -1,5 +1,5 @@
 -- Calls one after the other.
-use Rattle.std.proofs.Common.{◌≡◌, ℕ, zero, suc, ◌+◌, ◌<◌, List, [], ◌∷◌, ◌++◌, length, get_or, take, replicate, sym, refl, ap, ◌∙◌, subst, add-one}
+use Rattle.std.proofs.Common.{◌≡◌, ℕ, ◌+◌, ◌<◌, List, [], ◌∷◌, ◌++◌, length, get_or, take, sym, refl, ap, ◌∙◌, subst}
 use Rattle.std.proofs.lemmas.List.{take_more}
 use Rattle.sheets.specs.Meaning.{Meaning, LawfulSheet}
 use Rattle.session_theory.specs.Session.{Session, Entry, Happens}
@@ -33,10 +33,3 @@ more_so_far m good calls i c d rs r s t lt is (h, told, rec) (x, entry, p) =
 pub all_performed : (m : Meaning) → LawfulSheet m → (calls : List Call) (rs : List Reply) (s : Session) → SoFar m calls rs s → Performed m calls rs
 unfolding SoFar Performed
 all_performed m good calls rs s (h, told, rec) = (h, s, told, rec, law m good h s rec)
-
-pub zeros_more : (i : ℕ) → ◌≡◌ {A = List ℕ} (replicate i 0 ++ (0 ∷ [])) (replicate (i + 1) 0)
-zeros_more i = rw add-one (by i)
-  where
-    by : (i : ℕ) → ◌≡◌ {A = List ℕ} (replicate i 0 ++ (0 ∷ [])) (replicate (suc i) 0)
-    by zero = refl
-    by (suc i) = ap (λ l. 0 ∷ l) (by i)

@@ -19,7 +19,7 @@ use Rattle.session.specs.declared.ends.Setting.{Setting}
 use Rattle.session.specs.Ends.{end_in}
 
 -- whatever was called before on the session s, which the call x leaves as t: the history goes on, and all of it is lawful
-abbrev pub GoesOn : Session → Entry → Session → Type 0
+unfoldable pub GoesOn : Session → Entry → Session → Type 0
 GoesOn s x t = (m : Meaning) → LawfulSheet m → (h : History) → Recorded m h s → Recorded m (x ∷ h) t × Lawful m (x ∷ h)
 
 -- the search went on from the course c by the budget, and this is told
@@ -36,6 +36,5 @@ pub record Admitted (s : Session) (rule : Result Constraint Fault) (reply : Repl
 -- what an event does
 abbrev pub Answers : Session → Event → Answer → Session → Type 0
 Answers s (Take kind es) (Took r) t = Admitted s (checked layer.Session 0 (size s) kind es.now) r t
-Answers s (Take kind es) (Settled told) t = ⊥
-Answers s (Settle b) (Took r) t = ⊥
 Answers s (Settle b) (Settled told) t = Went s (course s) b told t
+Answers s _ _ t = ⊥

@@ -12,21 +12,10 @@ use Rattle.session.specs.Ends.{settle_entry}
 -- x is the call with its reply; a reply to another call makes no entry
 abbrev pub IsEntry : Call → Reply → Entry → Type 0
 IsEntry (Take rule) (Took r) x = x ≡ took rule.kind (vec_items rule.entries) r
-IsEntry (Take rule) (Free f) x = ⊥
-IsEntry (Take rule) (Settled r) x = ⊥
-IsEntry (Take rule) (Copied r bytes) x = ⊥
-IsEntry Freedom (Took r) x = ⊥
 IsEntry Freedom (Free f) x = x ≡ freedom_told f
-IsEntry Freedom (Settled r) x = ⊥
-IsEntry Freedom (Copied r bytes) x = ⊥
-IsEntry (Settle b) (Took r) x = ⊥
-IsEntry (Settle b) (Free f) x = ⊥
 IsEntry (Settle b) (Settled r) x = x ≡ settle_entry b r
-IsEntry (Settle b) (Copied r bytes) x = ⊥
-IsEntry (Copy k) (Took r) x = ⊥
-IsEntry (Copy k) (Free f) x = ⊥
-IsEntry (Copy k) (Settled r) x = ⊥
 IsEntry (Copy k) (Copied r bytes) x = x ≡ copied (replicate k 0) r (vec_items bytes)
+IsEntry _ _ x = ⊥
 
 -- at s the call gets the reply, and leaves t
 unfoldable pub Performs : Session → Call → Reply → Session → Type 0

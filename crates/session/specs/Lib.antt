@@ -1,4 +1,5 @@
 pub mod Phases
+pub mod Props
 pub mod Ends
 pub mod Sessions
 pub mod Calls

@@ -97,6 +97,7 @@ impl Session {
     }
 
     // Takes the rule that the kind and the entries name, where it passes its check and the margin has room.
+    #[tactic(auto, using(rules::proofs::Lawfuls::checked_lawful))]
     fn admit(&mut self, kind: RawKind, entries: &[i16]) -> Result<(), Fault>
         ensures { Admitted (session_of self.old) (checked layer.Session 0 self.old.rules.switches kind entries.now) result (session_of self.new) }
     {

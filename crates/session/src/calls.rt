@@ -13,6 +13,7 @@ use crate::writing::write_values;
 use rules::faults::{Cause, Fault};
 use rules::kinds::RawKind;
 
+#[tactic(auto, using(crate::proofs::Copied::lawfully), unfolding(session_theory::specs::Session::Happens))]
 impl Session {
     // Takes a rule into the margin, which holds at most 64; the search then begins anew. What is refused alters nothing.
     pub fn take(&mut self, kind: RawKind, entries: &[i16]) -> Result<(), Fault>

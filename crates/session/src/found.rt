@@ -11,7 +11,8 @@ use std::array;
 impl Session {
     // The values of the switches, off where the search shows none. Where it has found a setting, they are that setting.
     pub(crate) fn setting(&self) -> Setting
-        ensures { (s : List Bool) → course_of self.now.search ≡ found s → self.now.search.system.switches ≡ self.now.rules.switches → values_in result ≡ s }
+        ensures width { result.width ≡ self.now.rules.switches }
+        ensures found { (s : List Bool) → course_of self.now.search ≡ found s → self.now.search.system.switches ≡ self.now.rules.switches → values_in result ≡ s }
     {
         Setting {
             values: array::from_fn(|i| self.search.value(i as u16 + 1).unwrap_or(false)),

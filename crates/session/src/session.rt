@@ -2,6 +2,7 @@
 ghost use Rattle.std.specs.Prelude.{◌≡◌, ◌+◌, ◌≤◌, vec_len, vec_capacity};
 ghost use Rattle.parity.specs.Reductions.{standing_rules, switches_told};
 ghost use Rattle.session.specs.Phases.{Reduces, Tells};
+ghost use Rattle.session.specs.Props.{Reduces-prop, Tells-prop};
 
 use crate::phases::Phase;
 use parity::reduction::Reduction;
@@ -26,6 +27,6 @@ pub struct Session {
     ghost clauses: { 2112 ≤ vec_capacity search.system.clauses },
     ghost rows: { 256 ≤ vec_capacity search.system.rows },
     ghost switches: { switches_told reduction ≡ rules.switches },
-    ghost reduced: { ∥ Reduces rules.switches (standing_rules rules) reduction ∥₁ },
-    ghost searched: { ∥ Tells standing rules.switches (standing_rules rules) search ∥₁ },
+    ghost reduced: { Reduces rules.switches (standing_rules rules) reduction } by { Reduces-prop rules.switches (standing_rules rules) reduction },
+    ghost searched: { Tells standing rules.switches (standing_rules rules) search } by { Tells-prop standing rules.switches (standing_rules rules) search },
 }

@@ -33,22 +33,22 @@ module _ (n : ℕ) (rs : List Constraint) (b total k : ℕ) where
       record {
         found_when = λ _. (λ _. (setting q, a.1.keeps), λ _. (q, refl));
         earliest = λ values e. let same : q ≡ values = cc in subst (λ vs. (length vs ≡ n) × Earliest n rs (setting vs)) same a;
-        none_when = λ _. (λ e. let z : ◌≡◌ {A = ℕ} 0 1 = cc in absurd (omega arith), λ unkept. absurd (unkept (setting q) a.1.keeps));
-        spent_when = (λ e. let z : ◌≡◌ {A = ℕ} 0 1 = cc in absurd (omega arith), λ p. let y = sym (ap has_ended is) ∙ p.1 in let z : ◌≡◌ {A = ℕ} 0 1 = cc in absurd (omega arith));
-        spent_then = λ e. let z : ◌≡◌ {A = ℕ} 0 1 = cc in absurd (omega arith);
+        none_when = λ _. (λ e. cc, λ unkept. absurd (unkept (setting q) a.1.keeps));
+        spent_when = (λ e. cc, λ p. let y = sym (ap has_ended is) ∙ p.1 in cc);
+        spent_then = λ e. cc;
       }
   settled_at search.nothing is a all =
       record {
-        found_when = λ _. (λ p. let y = p.1 in let z : ◌≡◌ {A = ℕ} 0 1 = cc in absurd (omega arith), λ p. absurd (a p.0 p.1));
-        earliest = λ values e. let z : ◌≡◌ {A = ℕ} 0 1 = cc in absurd (omega arith);
+        found_when = λ _. (λ p. let y = p.1 in cc, λ p. absurd (a p.0 p.1));
+        earliest = λ values e. cc;
         none_when = λ _. (λ _. a, λ _. refl);
-        spent_when = (λ e. let z : ◌≡◌ {A = ℕ} 0 1 = cc in absurd (omega arith), λ p. let y = sym (ap has_ended is) ∙ p.1 in let z : ◌≡◌ {A = ℕ} 0 1 = cc in absurd (omega arith));
-        spent_then = λ e. let z : ◌≡◌ {A = ℕ} 0 1 = cc in absurd (omega arith);
+        spent_when = (λ e. cc, λ p. let y = sym (ap has_ended is) ∙ p.1 in cc);
+        spent_then = λ e. cc;
       }
   settled_at (search.due ts) is a all =
       record {
         found_when = λ h. absurd (h refl);
-        earliest = λ values e. let z : ◌≡◌ {A = ℕ} 0 1 = cc in absurd (omega arith);
+        earliest = λ values e. cc;
         none_when = λ h. absurd (h refl);
         spent_when = (λ _. (all refl, ap has_ended is), λ _. refl);
         spent_then = λ _. a;
@@ -59,8 +59,8 @@ module _ (n : ℕ) (Found : List Bool → Type 0) (old : List ℕ) where
   refused : (f : Fault) → (n ≤ length old → (values : List Bool) → Found values → ⊥) → CopiedRight n Found old (Err f) old
   refused f never =
       record {
-        accepted_when = (λ e. let z : ◌≡◌ {A = ℕ} 0 1 = cc in absurd (omega arith), λ p. absurd (never p.0 p.1.0 p.1.1));
-        writes = λ values e q. let z : ◌≡◌ {A = ℕ} 0 1 = cc in absurd (omega arith);
+        accepted_when = (λ e. cc, λ p. absurd (never p.0 p.1.0 p.1.1));
+        writes = λ values e q. cc;
         else_nothing = λ g e. refl;
       }
 
@@ -70,32 +70,32 @@ module _ (n : ℕ) (Found : List Bool → Type 0) (old : List ℕ) where
       by : (b : Bool) → ltb (length old) n ≡ b → (o : Option (List Bool)) → ((values : List Bool) → Found values ↔ (o ≡ Some values)) →
           CopiedRight n Found old (cond b (Err (fault layer.Session ShortBuffer 0 0)) (when_found o)) (cond b old (overwritten n o old))
       by true e o is = let short = ltb-true (length old) n e in refused (fault layer.Session ShortBuffer 0 0) (λ long. absurd (omega arith))
-      by false e None is = refused (fault layer.Session NothingFound 0 0) (λ _ values q. let y = (is values).0 q in let z : ◌≡◌ {A = ℕ} 0 1 = cc in absurd (omega arith))
+      by false e None is = refused (fault layer.Session NothingFound 0 0) (λ _ values q. let y = (is values).0 q in cc)
       by false e (Some vs) is =
           let long : n ≤ length old = ltb-false (length old) n e in
           record {
             accepted_when = (λ _. (long, (vs, (is vs).1 refl)), λ _. refl);
             writes = λ values _ q. let y = (is values).0 q in let same : vs ≡ values = cc in ap (λ u. map bit u ++ drop n old) same;
-            else_nothing = λ g e. let z : ◌≡◌ {A = ℕ} 0 1 = cc in absurd (omega arith);
+            else_nothing = λ g e. cc;
           }
 
 -- the setting found, before and after a settle
 end_found : (c : Course) (values : List Bool) → (end_at c ≡ found values) ↔ (setting_at c ≡ Some values)
 end_found (search.found q) values = (λ e. let same : q ≡ values = cc in ap Some same, λ e. let same : q ≡ values = cc in ap found same)
-end_found search.nothing values = (λ e. let z : ◌≡◌ {A = ℕ} 0 1 = cc in absurd (omega arith), λ e. let z : ◌≡◌ {A = ℕ} 0 1 = cc in absurd (omega arith))
-end_found (search.due ts) values = (λ e. let z : ◌≡◌ {A = ℕ} 0 1 = cc in absurd (omega arith), λ e. let z : ◌≡◌ {A = ℕ} 0 1 = cc in absurd (omega arith))
+end_found search.nothing values = (λ e. cc, λ e. cc)
+end_found (search.due ts) values = (λ e. cc, λ e. cc)
 
 found_stays : (next : List Literal → Course) (b : ℕ) (c : Course) (values : List Bool) → setting_at c ≡ Some values → setting_at (onward next b c) ≡ Some values
 found_stays next b (search.found q) values h = h
 found_stays next b search.nothing values h = h
-found_stays next b (search.due ts) values h = let z : ◌≡◌ {A = ℕ} 0 1 = cc in absurd (omega arith)
+found_stays next b (search.due ts) values h = cc
 
 still_found : (n : ℕ) (rs : List Constraint) (b : ℕ) (w : Standing) (values : List Bool) → setting_of w ≡ Some values → setting_at (onward (next_in n (system n rs)) b (course_of n rs w)) ≡ Some values
-still_found n rs b fresh values h = let z : ◌≡◌ {A = ℕ} 0 1 = cc in absurd (omega arith)
+still_found n rs b fresh values h = cc
 still_found n rs b (searched c) values h = found_stays (next_in n (system n rs)) b c values h
 
 none_found : (values : List Bool) → ⊥ ↔ (◌≡◌ {A = Option (List Bool)} None (Some values))
-none_found values = (λ p. absurd p, λ e. let z : ◌≡◌ {A = ℕ} 0 1 = cc in absurd (omega arith))
+none_found values = (λ p. absurd p, λ e. cc)
 
 -- what a history and the session that it left have in common: above all, the search is where the budgets of the stretch take it
 record Carried (m : Meaning) (h : History) (s : Session) : Type 0 where

@@ -1,5 +1,5 @@
 -- The system fits the rules.
-use Rattle.std.proofs.Common.{◌≡◌, ℕ, true, leb, ◌↔◌, List, [], ◌∷◌, ◌++◌, map, length, Some, None, Option, sym, refl, ap, ◌∙◌, subst, inl, inr, arith}
+use Rattle.std.proofs.Common.{◌≡◌, ℕ, true, leb, ◌↔◌, List, [], ◌∷◌, ◌++◌, map, length, Some, None, Option, sym, refl, ap, ◌∙◌, subst, inl, inr}
 use Rattle.std.proofs.lemmas.Bool.{and_parts, leb-true}
 use Rattle.rules.specs.declared.literals.Literal.{Literal}
 use Rattle.rules.specs.declared.kinds.Side.{Side}
@@ -87,7 +87,7 @@ module _ (n : ℕ) (rules : List Constraint) (law : LawfulRules n rules) where
   system_fits rs e = by (rows n rules) refl e
     where
       by : (o : Option (List Constraint)) → rows n rules ≡ o → with_rows (clauses rules) o ≡ Some rs → Fits n rules rs
-      by None q h = let z : ◌≡◌ {A = ℕ} 0 1 = cc in absurd (omega arith)
+      by None q h = cc
       by (Some qs) q h = let same : map clause (clauses rules) ++ qs ≡ rs = cc in subst (Fits n rules) same (rows_fit qs q)
 
   pub no_system : (system n rules ≡ None) ↔ NoneKeeps n rules
@@ -97,7 +97,7 @@ module _ (n : ℕ) (rules : List Constraint) (law : LawfulRules n rules) where
     where
       back : (o : Option (List Constraint)) → with_rows (clauses rules) o ≡ None → o ≡ None
       back None h = refl
-      back (Some rs) h = let z : ◌≡◌ {A = ℕ} 0 1 = cc in absurd (omega arith)
+      back (Some rs) h = cc
 
 pub systems_right : SystemsRight
 systems_right = record { fits = λ n rules rs law. system_fits n rules law rs; contradiction = no_system }

@@ -1,5 +1,5 @@
 -- The rule that an accepted take adds.
-use Rattle.std.proofs.Common.{◌≡◌, ℕ, Bool, true, false, cond, ltb, List, length, ℤ, Some, None, Ok, Err, Option, Result, sym, arith}
+use Rattle.std.proofs.Common.{◌≡◌, ℕ, Bool, true, false, cond, ltb, List, length, ℤ, Some, None, Ok, Err, Option, Result, sym}
 use Rattle.std.specs.Option.{option_map}
 use Rattle.rules.specs.declared.kinds.Kind.{Kind}
 use Rattle.rules.specs.declared.kinds.RawKind.{RawKind}
@@ -23,22 +23,22 @@ checked_named l k n kind es r h = by_width (raw_width_fits kind (length es)) h
   where
     by_misfit : (k' : Kind) (o : Option Misfit) → on_err (as_fault l k) (verdict o (rule_of k' es)) ≡ Ok r → Some (rule_of k' es) ≡ Some r
     by_misfit k' None h = cc
-    by_misfit k' (Some m) h = let z : ◌≡◌ {A = ℕ} 0 1 = cc in absurd (omega arith)
+    by_misfit k' (Some m) h = cc
 
     by_kind : (o : Option Kind) → checked_kind l k o n es ≡ Ok r → option_map (λ k. rule_of k es) o ≡ Some r
-    by_kind None h = let z : ◌≡◌ {A = ℕ} 0 1 = cc in absurd (omega arith)
+    by_kind None h = cc
     by_kind (Some k') h = by_misfit k' (rule_misfit k' n es) h
 
     by_width : (b : Bool) → cond b (checked_kind l k (kind_of kind) n es) (Err (fault l Width k 0)) ≡ Ok r → option_map (λ k. rule_of k es) (kind_of kind) ≡ Some r
     by_width true h = by_kind (kind_of kind) h
-    by_width false h = let z : ◌≡◌ {A = ℕ} 0 1 = cc in absurd (omega arith)
+    by_width false h = cc
 
 room_checked : (k : ℕ) (y : Result Constraint Fault) (r : Constraint) → with_room k y ≡ Ok r → y ≡ Ok r
 room_checked k (Ok q) r h = by (ltb k most_taken) h
   where
     by : (b : Bool) → cond b (Ok q) (Err (fault layer.Session MarginFull 0 0)) ≡ Ok r → ◌≡◌ {A = Result Constraint Fault} (Ok q) (Ok r)
     by true h = h
-    by false h = let z : ◌≡◌ {A = ℕ} 0 1 = cc in absurd (omega arith)
+    by false h = cc
 room_checked k (Err f) r h = h
 
 module _ (s : Session) (kind : RawKind) (es : List ℤ) (r : Constraint) (h : taken s kind es ≡ Ok r) where

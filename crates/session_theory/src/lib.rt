@@ -23,6 +23,7 @@ pub fn calls_lawful()
 {}
 
 // Small sessions, computed.
+#[tactic(auto, unfolding(rules::specs::First::first_of, rules::specs::First::some_below))]
 pub fn worked_examples()
     ensures { Worked }
 {}

@@ -3,8 +3,8 @@ use Rattle.search.specs.Searches.{shown}
 use Rattle.session.proofs.Founds.{found_long, found_shown, made_at, values_made}
 use Rattle.session.proofs.session.Session.setting.Goals as goal
 
-pub returns : goal.returns
-returns c =
+pub returns-clause-found : goal.returns-clause-found
+returns-clause-found c =
     let s = c.args.self.now.search in
     let made = c.from_fn.ensures.items in
     let P : ℕ → Bool → Type 0 = λ i on. on ≡ unwrap_or (shown s (i + 1)) false in
