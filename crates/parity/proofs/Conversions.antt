@@ -1,8 +1,8 @@
--- One turn of the loops that make equations, parity rules and rows.
-use Rattle.std.proofs.Common.{◌≡◌, ℕ, suc, ◌+◌, ◌-◌, ◌<◌, ◌≤◌, Bool, true, false, cond, not, ◌&&◌, eqb, ◌⊎◌, List, [], ◌∷◌, ◌++◌, length, get_or, take, set, sym, refl, ap, ◌∙◌, inl, inr, add-one, arith}
+-- Equations, parity rules and rows, member by member.
+use Rattle.std.proofs.Common.{◌≡◌, ℕ, suc, ◌+◌, ◌-◌, ◌<◌, ◌≤◌, Bool, true, false, cond, not, ◌&&◌, eqb, ◌⊎◌, List, [], ◌∷◌, ◌++◌, length, get_or, take, set, fold, sym, refl, ap, ◌∙◌, inl, inr, add-one, arith}
 use mathlib.Core.Bool.{beq}
 use Rattle.std.proofs.lemmas.List.FromFn.{get_or-map-range_with_len}
-use Rattle.std.proofs.lemmas.List.{ext_get_or, take_more, take_more_set, get_or-set_same, get_or-set_other, append_assoc}
+use Rattle.std.proofs.lemmas.List.{ext_get_or, take_more, get_or-set_same, get_or-set_other, append_assoc}
 use Rattle.std.proofs.lemmas.Bool.{cases_eq, eq-eqb, ne_eqb}
 use Rattle.rules.specs.declared.literals.Literal.{Literal}
 use Rattle.rules.specs.Constraints.{xor}
@@ -10,7 +10,6 @@ use Rattle.rules.specs.Lawful.{absent}
 use Rattle.parity_theory.specs.Equations.{set_of}
 use Rattle.parity_theory.specs.Recovering.{odd_negations}
 use Rattle.parity_theory.specs.Reducing.{falling}
-use Rattle.parity_theory.proofs.Sums.{xor_assoc, xor_false}
 use Rattle.parity_theory.proofs.Systems.{and_assoc, and_true}
 use Rattle.parity_theory.proofs.Members.{set_length}
 
@@ -50,35 +49,33 @@ members_set members vs size inv =
 
 -- ---- the negations of a clause
 
-odd_negations_push : (ls : List Literal) (l : Literal) → odd_negations (ls ++ (l ∷ [])) ≡ xor (odd_negations ls) (not l.on)
-odd_negations_push [] l = xor_false (not l.on)
-odd_negations_push (m ∷ ls) l = ap (xor (not m.on)) (odd_negations_push ls l) ∙ xor_assoc (not m.on) (odd_negations ls) (not l.on)
-
-pub odd_more : (ls : List Literal) (i : ℕ) (d : Literal) (odd : Bool) → i < length ls → odd ≡ not (odd_negations (take i ls)) → beq odd (get_or ls i d).on ≡ not (odd_negations (take (i + 1) ls))
-odd_more ls i d odd h e =
-    ap (λ b. beq b (get_or ls i d).on) e
-    ∙ same_side (odd_negations (take i ls)) (get_or ls i d).on
-    ∙ sym (ap (λ l. not (odd_negations l)) (take_more ls i d h) ∙ ap not (odd_negations_push (take i ls) (get_or ls i d)))
+-- each negation changes the side
+pub odd_folded : (ls : List Literal) (odd : Bool) → fold (λ b (l : Literal). beq b l.on) odd ls ≡ not (xor (not odd) (odd_negations ls))
+odd_folded [] true = refl
+odd_folded [] false = refl
+odd_folded (l ∷ ls) odd = odd_folded ls (beq odd l.on) ∙ by odd l.on (odd_negations ls)
   where
-    same_side : (a b : Bool) → beq (not a) b ≡ not (xor a (not b))
-    same_side true true = refl
-    same_side true false = refl
-    same_side false true = refl
-    same_side false false = refl
+    by : (a b c : Bool) → not (xor (not (beq a b)) c) ≡ not (xor (not a) (xor (not b) c))
+    by true true c = refl
+    by true false true = refl
+    by true false false = refl
+    by false true c = refl
+    by false false true = refl
+    by false false false = refl
 
 -- ---- the members of a row, from the highest down
 
-module _ (switches : List ℕ) (members : List Bool) (w i j : ℕ) (rest : List ℕ) (next : i ≡ j + 1) (inv : take w switches ++ falling members i ≡ rest) where
-  step : take w switches ++ cond (get_or members j false) (suc j ∷ falling members j) (falling members j) ≡ rest
-  step = ap (λ k. take w switches ++ falling members k) (sym (next ∙ add-one j)) ∙ inv
+module _ (written : List ℕ) (members : List Bool) (i j : ℕ) (rest : List ℕ) (next : i ≡ j + 1) (inv : written ++ falling members i ≡ rest) where
+  step : written ++ cond (get_or members j false) (suc j ∷ falling members j) (falling members j) ≡ rest
+  step = ap (λ k. written ++ falling members k) (sym (next ∙ add-one j)) ∙ inv
 
-  pub written_more : w < length switches → get_or members j false ≡ true → take (w + 1) (set switches w (j + 1)) ++ falling members j ≡ rest
-  written_more here e =
-      ap (λ l. l ++ falling members j) (take_more_set switches w (j + 1) here)
-      ∙ append_assoc (take w switches) ((j + 1) ∷ []) (falling members j)
-      ∙ ap (λ k. take w switches ++ (k ∷ falling members j)) (add-one j)
-      ∙ sym (ap (λ b. take w switches ++ cond b (suc j ∷ falling members j) (falling members j)) e)
+  pub written_more : (new : List ℕ) → new ≡ written ++ ((j + 1) ∷ []) → get_or members j false ≡ true → new ++ falling members j ≡ rest
+  written_more new more e =
+      ap (λ l. l ++ falling members j) more
+      ∙ append_assoc written ((j + 1) ∷ []) (falling members j)
+      ∙ ap (λ k. written ++ (k ∷ falling members j)) (add-one j)
+      ∙ sym (ap (λ b. written ++ cond b (suc j ∷ falling members j) (falling members j)) e)
       ∙ step
 
-  pub skipped_more : get_or members j false ≡ false → take w switches ++ falling members j ≡ rest
-  skipped_more e = sym (ap (λ b. take w switches ++ cond b (suc j ∷ falling members j) (falling members j)) e) ∙ step
+  pub skipped_more : get_or members j false ≡ false → written ++ falling members j ≡ rest
+  skipped_more e = sym (ap (λ b. written ++ cond b (suc j ∷ falling members j) (falling members j)) e) ∙ step

@@ -1,21 +1,36 @@
 -- The equations that the rules give, one rule after the other.
-use Rattle.std.proofs.Common.{◌≡◌, ℕ, ◌+◌, ◌<◌, ◌≤◌, Bool, true, false, cond, ◌&&◌, leb, List, [], ◌∷◌, ◌++◌, map, length, get_or, drop, Some, None, filter, Option, sym, refl, ap, ◌∙◌, ap₂, arith}
-use Rattle.std.proofs.lemmas.List.{length-map, get_or-map}
-use Rattle.std.proofs.lemmas.Bool.{and_parts, and_from, leb-true, le-leb, cond-true}
+use Rattle.std.proofs.Common.{◌≡◌, ℕ, Iter, ◌<◌, ◌≤◌, Bool, true, false, cond, ◌&&◌, ltb, leb, List, [], ◌∷◌, ◌++◌, map, length, get_or, take, drop, Some, None, filter, Option, option_map, sym, refl, ap, ◌∙◌, ap₂, inl, inr, arith}
+use Rattle.std.specs.List.{filter_map, cons_option}
+use Rattle.std.proofs.lemmas.List.{length-map, get_or-map, map-append, map_push, take-append-drop}
+use Rattle.std.proofs.lemmas.Bool.{cases_Bool, and_parts, and_from, leb-true, le-leb, ltb-true, ltb-false, cond-true, cond-false}
+use denote.Param.Members.{Mut}
+use denote.Ref.{Bor}
+use Rattle.std.specs.Fn.{Called}
+use Rattle.std.specs.Slice.Iter.{iter_rest}
+use Rattle.std.specs.Iterator.Adapters.{filter_map_source, filter_map_callee, filter_map_steps, chain_first, chain_second, chain_first_done, chain_second_done, chain_steps}
+use Rattle.std.specs.declared.iter.FilterMap.{FilterMap}
+use Rattle.std.specs.declared.iter.Chain.{Chain}
+use Rattle.std.proofs.iter.Yields.{fronts}
+use Rattle.std.proofs.lemmas.Iterator.{YieldsList, YieldsList-from_slice}
+use Rattle.std.proofs.lemmas.Iterator.Consumers.{YieldsList-from_chain}
 use Rattle.rules.specs.declared.literals.Literal.{Literal}
 use Rattle.rules.specs.declared.kinds.Side.{Side}
 use Rattle.rules.specs.declared.rule.Rule.{Rule}
 use Rattle.rules.specs.First.{every}
-use Rattle.rules.specs.Constraints.{Constraint, clause, parity, switch_of, kind}
+use Rattle.rules.specs.Constraints.{Constraint, clause, parity, switch_of, kind, Each}
 use Rattle.rules.specs.Lawful.{width_fits, lawful}
 use Rattle.rules.specs.Views.{constraint}
 use Rattle.rules.proofs.Lawfuls.{every_at}
-use Rattle.parity_theory.specs.Equations.{Equation, equation}
-use Rattle.parity_theory.specs.Recovering.{clauses, named, narrow, recovers, equation_of, equations_of, parities}
+use Rattle.parity_theory.specs.Equations as theory
+use Rattle.parity_theory.specs.Equations.{equation}
+use Rattle.parity_theory.specs.Recovering.{clauses, named, narrow, recovers, equation_of, parities}
 use Rattle.parity_theory.specs.Reducing.{Row, extended, reduce_from, reduce}
 use Rattle.parity_theory.proofs.Repeats.{reduce_append, repeats}
-use Rattle.parity.specs.Gathering.{named_by, recovered_by, in_front, gathered, taken_in, OfEquations}
-use Rattle.parity.proofs.Turns.{fold_more}
+use Rattle.parity.specs.declared.equations.Equation.{Equation}
+use Rattle.parity.specs.Views.{equation_in}
+use Rattle.parity.specs.Buckets.{shared_bucket, bucket}
+use Rattle.parity.specs.Gathering.{named_by, recovered_by}
+use Rattle.parity.proofs.Filtered.{YieldsList-from_filter_map_at}
 
 -- ---- a clause and the parity rule on its switches
 
@@ -35,57 +50,117 @@ recovered_when cs ls h few rec =
     let w = clause_width ls h in
     sym (cond-true _ _ _ (and_from (narrow ls) (recovers cs ls) (and_from _ _ (le-leb 1 (length ls) w.0) (le-leb (length ls) 5 few)) rec))
 
+-- a clause in a bucket is narrow enough to recover a rule
+pub bucket_narrow : (ls : List Literal) (b : ℕ) → Some b ≡ bucket ls → (length ls ≤ 5) × (b ≡ shared_bucket (map switch_of ls))
+bucket_narrow ls b e = by (ltb 5 (length ls)) refl e
+  where
+    by : (t : Bool) → ltb 5 (length ls) ≡ t → Some b ≡ cond t None (Some (shared_bucket (map switch_of ls))) → (length ls ≤ 5) × (b ≡ shared_bucket (map switch_of ls))
+    by true k h = let z : ◌≡◌ {A = ℕ} 0 1 = cc in absurd (omega arith)
+    by false k h = (ltb-false 5 (length ls) k, cc)
+
+-- one in none recovers nothing
+pub bucket_wide : (cs : List (List Literal)) (ls : List Literal) → None ≡ bucket ls → None ≡ recovered_by cs (clause ls)
+bucket_wide cs ls e = by (ltb 5 (length ls)) refl e
+  where
+    by : (t : Bool) → ltb 5 (length ls) ≡ t → None ≡ cond t None (Some (shared_bucket (map switch_of ls))) → None ≡ recovered_by cs (clause ls)
+    by true k h =
+        elim (cases_Bool (narrow ls)) [
+          | inl t ↦ absurd (omega (arith, ltb-true 5 (length ls) k, leb-true (length ls) 5 (and_parts (leb 1 (length ls)) (leb (length ls) 5) t).1))
+          | inr f ↦ sym (cond-false _ _ _ (ap (λ t. t && recovers cs ls) f))
+        ]
+    by false k h = let z : ◌≡◌ {A = ℕ} 0 1 = cc in absurd (omega arith)
+
 -- ---- all rules
 
-gathered_named : (rules : List Constraint) → gathered named_by rules ≡ named 256 rules
-gathered_named [] = refl
-gathered_named (clause ls ∷ rules) = gathered_named rules
-gathered_named (parity vs side ∷ rules) = ap (λ es. equation 256 vs side ∷ es) (gathered_named rules)
+-- an equation of the definitions, as the code has it
+abbrev coded : theory.Equation → Equation
+coded e = record { members = e.members; odd = e.odd }
 
-kept_twice : (cs : List (List Literal)) (ls : List Literal) (rest : List (List Literal)) → map (equation_of 256) (filter (recovers cs) (filter narrow (ls ∷ rest))) ≡ in_front (cond (narrow ls && recovers cs ls) (Some (equation_of 256 ls)) None) (map (equation_of 256) (filter (recovers cs) (filter narrow rest)))
+coded_back : (o : Option Equation) → o ≡ option_map coded (option_map equation_in o)
+coded_back None = refl
+coded_back (Some e) = refl
+
+-- the equation that a rule gives by f, as the code has it
+abbrev pub given : (Constraint → Option theory.Equation) → Rule → Option Equation
+given f r = option_map coded (f (constraint r))
+
+pub is_given : (f : Constraint → Option theory.Equation) (r : Rule) (o : Option Equation) → option_map equation_in o ≡ f (constraint r) → o ≡ given f r
+is_given f r o h = coded_back o ∙ ap (option_map coded) h
+
+all_given : (f : Constraint → Option theory.Equation) (rules : List Rule) → map equation_in (filter_map (given f) rules) ≡ filter_map f (map constraint rules)
+all_given f [] = refl
+all_given f (r ∷ rules) = by (f (constraint r)) (all_given f rules)
+  where
+    by : (o : Option theory.Equation) → map equation_in (filter_map (given f) rules) ≡ filter_map f (map constraint rules) → map equation_in (cons_option (option_map coded o) (filter_map (given f) rules)) ≡ cons_option o (filter_map f (map constraint rules))
+    by None ih = ih
+    by (Some e) ih = ap (λ es. e ∷ es) ih
+
+named_given : (rules : List Constraint) → filter_map named_by rules ≡ named 256 rules
+named_given [] = refl
+named_given (clause ls ∷ rules) = named_given rules
+named_given (parity vs side ∷ rules) = ap (λ es. equation 256 vs side ∷ es) (named_given rules)
+
+kept_twice : (cs : List (List Literal)) (ls : List Literal) (rest : List (List Literal)) → map (equation_of 256) (filter (recovers cs) (filter narrow (ls ∷ rest))) ≡ cons_option (cond (narrow ls && recovers cs ls) (Some (equation_of 256 ls)) None) (map (equation_of 256) (filter (recovers cs) (filter narrow rest)))
 kept_twice cs ls rest = by (narrow ls) (recovers cs ls) refl
   where
-    by : (a b : Bool) → recovers cs ls ≡ b → map (equation_of 256) (filter (recovers cs) (cond a (ls ∷ filter narrow rest) (filter narrow rest))) ≡ in_front (cond (a && b) (Some (equation_of 256 ls)) None) (map (equation_of 256) (filter (recovers cs) (filter narrow rest)))
+    by : (a b : Bool) → recovers cs ls ≡ b → map (equation_of 256) (filter (recovers cs) (cond a (ls ∷ filter narrow rest) (filter narrow rest))) ≡ cons_option (cond (a && b) (Some (equation_of 256 ls)) None) (map (equation_of 256) (filter (recovers cs) (filter narrow rest)))
     by true true e = ap (λ t. map (equation_of 256) (cond t (ls ∷ filter (recovers cs) (filter narrow rest)) (filter (recovers cs) (filter narrow rest)))) e
     by true false e = ap (λ t. map (equation_of 256) (cond t (ls ∷ filter (recovers cs) (filter narrow rest)) (filter (recovers cs) (filter narrow rest)))) e
     by false b e = refl
 
-gathered_from : (cs : List (List Literal)) (rules : List Constraint) → gathered (recovered_by cs) rules ≡ map (equation_of 256) (filter (recovers cs) (filter narrow (clauses rules)))
-gathered_from cs [] = refl
-gathered_from cs (clause ls ∷ rules) = ap (in_front (recovered_by cs (clause ls))) (gathered_from cs rules) ∙ sym (kept_twice cs ls (clauses rules))
-gathered_from cs (parity vs side ∷ rules) = gathered_from cs rules
+recovered_given : (cs : List (List Literal)) (rules : List Constraint) → filter_map (recovered_by cs) rules ≡ map (equation_of 256) (filter (recovers cs) (filter narrow (clauses rules)))
+recovered_given cs [] = refl
+recovered_given cs (clause ls ∷ rules) = ap (cons_option (recovered_by cs (clause ls))) (recovered_given cs rules) ∙ sym (kept_twice cs ls (clauses rules))
+recovered_given cs (parity vs side ∷ rules) = recovered_given cs rules
 
-gathered_recovered : (rules : List Constraint) → gathered (recovered_by (clauses rules)) rules ≡ equations_of 256 (clauses rules)
-gathered_recovered rules = gathered_from (clauses rules) rules
+-- the equations that the rules give: first the named, then the recovered
+abbrev pub all_equations : List Rule → List Equation
+all_equations rules = filter_map (given named_by) rules ++ filter_map (given (recovered_by (clauses (map constraint rules)))) rules
+
+pub all_reduced : (rules : List Rule) → reduce (map equation_in (all_equations rules)) ≡ reduce (parities 256 (map constraint rules))
+all_reduced rules =
+    let cs = clauses (map constraint rules) in
+    ap reduce (map-append equation_in (filter_map (given named_by) rules) (filter_map (given (recovered_by cs)) rules)
+    ∙ ap₂ ◌++◌ (all_given named_by rules ∙ named_given (map constraint rules)) (all_given (recovered_by cs) rules ∙ recovered_given cs (map constraint rules)))
+    ∙ repeats 256 (map constraint rules)
+
+-- each rule of a lawful list is lawful
+pub each_lawful : (rules : List Rule) → every (lawful 256) (map constraint rules) ≡ true → Each (λ (r : Rule). lawful 256 (constraint r) ≡ true) rules
+each_lawful [] law = tt
+each_lawful (r ∷ rules) law = let p = and_parts (lawful 256 (constraint r)) (every (lawful 256) (map constraint rules)) law in (p.0, each_lawful rules p.1)
+
+-- the iterator of the named and then of the recovered equations gives them all
+pub equations_come : {F G : Type 0} {g : Mut F (Bor Rule × Unit {0}) (Option Equation)} {j : Mut G (Bor Rule × Unit {0}) (Option Equation)} (Good : G → Type 0) (s : Chain (FilterMap (Iter Rule) F) (FilterMap (Iter Rule) G)) (rules : List Rule) → every (lawful 256) (map constraint rules) ≡ true → iter_rest (filter_map_source (chain_first s)) ≡ rules → iter_rest (filter_map_source (chain_second s)) ≡ rules → Good (filter_map_callee (chain_second s)) → chain_first_done s ≡ false → chain_second_done s ≡ false → ((w : F) (x : Bor Rule) (r : Option Equation) (q : F) → lawful 256 (constraint x.now) ≡ true → Called g w (x, tt) r q → option_map equation_in r ≡ named_by (constraint x.now)) → ((w : G) (x : Bor Rule) (r : Option Equation) (q : G) → Good w → lawful 256 (constraint x.now) ≡ true → Called j w (x, tt) r q → Good q × (option_map equation_in r ≡ recovered_by (clauses (map constraint rules)) (constraint x.now))) → YieldsList (chain_steps (filter_map_steps fronts g) (filter_map_steps fronts j)) (λ y. y) s (all_equations rules)
+equations_come {F} {G} {g} {j} Good s rules law from from2 good more more2 names recovers_it =
+    YieldsList-from_chain
+    (YieldsList-from_filter_map_at g (λ (r : Rule). lawful 256 (constraint r) ≡ true) (given named_by) (λ _. Unit {0}) (YieldsList-from_slice rules from) tt (each_lawful rules law) (λ w x r q _ l k. (tt, is_given named_by x.now r (names w x r q l k))))
+    (YieldsList-from_filter_map_at j (λ (r : Rule). lawful 256 (constraint r) ≡ true) (given (recovered_by (clauses (map constraint rules)))) Good (YieldsList-from_slice rules from2) good (each_lawful rules law) (λ w x r q a l k. let n = recovers_it w x r q a l k in (n.0, is_given (recovered_by (clauses (map constraint rules))) x.now r n.1)))
+    more more2
 
 -- ---- one more taken in
 
-pub taken_equations : (rows : Option (List Row)) (o : Option Equation) → OfEquations rows → OfEquations (taken_in rows o)
-taken_equations rows None h = h
-taken_equations rows (Some e) h = (h.0 ++ (e ∷ []), ap (λ r. extended r e) h.1 ∙ sym (reduce_append h.0 (e ∷ []) (Some [])))
+pub one_taken : (es : List Equation) (e : Equation) (rows : List Row) → Some rows ≡ reduce (map equation_in es) → extended (Some rows) (equation_in e) ≡ reduce (map equation_in (es ++ (e ∷ [])))
+one_taken es e rows h =
+    ap (λ r. extended r (equation_in e)) h
+    ∙ sym (reduce_append (map equation_in es) (equation_in e ∷ []) (Some []))
+    ∙ ap reduce (sym (map_push equation_in es e))
 
-taken_more : (rows : Option (List Row)) (o : Option Equation) (es : List Equation) → reduce_from rows (in_front o es) ≡ reduce_from (taken_in rows o) es
-taken_more rows None es = refl
-taken_more rows (Some e) es = refl
+-- a contradiction stays
+none_stays : (es : List theory.Equation) → reduce_from None es ≡ None
+none_stays [] = refl
+none_stays (e ∷ es) = none_stays es
 
--- the rules that are left make of the rows with what one more rule gives what they made with that rule before them
-pub gathered_more : (f : Constraint → Option Equation) (rules : List Rule) (i : ℕ) (r : Rule) (o : Option Equation) (rows new : Option (List Row)) → i < length rules → r ≡ get_or rules i r → o ≡ f (constraint r) → new ≡ taken_in rows o → reduce_from new (gathered f (map constraint (drop (i + 1) rules))) ≡ reduce_from rows (gathered f (map constraint (drop i rules)))
-gathered_more f rules i r o rows new here is gives takes =
-    let rest = gathered f (map constraint (drop (i + 1) rules)) in
-    fold_more (λ l s. reduce_from s (gathered f (map constraint l))) rules i r rows new here is
-    (ap (λ x. reduce_from rows (in_front x rest)) (sym gives) ∙ taken_more rows o rest ∙ ap (λ s. reduce_from s rest) (sym takes))
+pub contradicted : (all front : List Equation) (n : ℕ) → front ≡ take n all → reduce (map equation_in front) ≡ None → reduce (map equation_in all) ≡ None
+contradicted all front n e h =
+    ap (λ l. reduce (map equation_in l)) (sym (take-append-drop n all))
+    ∙ ap reduce (map-append equation_in (take n all) (drop n all))
+    ∙ reduce_append (map equation_in (take n all)) (map equation_in (drop n all)) (Some [])
+    ∙ ap (λ r. reduce_from r (map equation_in (drop n all))) (ap (λ l. reduce (map equation_in l)) (sym e) ∙ h)
+    ∙ none_stays (map equation_in (drop n all))
 
--- each rule of a lawful list is lawful
+-- the rule at an index of a lawful list
 pub rule_lawful : (rules : List Rule) (i : ℕ) (r : Rule) → every (lawful 256) (map constraint rules) ≡ true → i < length rules → r ≡ get_or rules i r → lawful 256 (constraint r) ≡ true
 rule_lawful rules i r law here is =
     ap (λ q. lawful 256 (constraint q)) is
     ∙ ap (lawful 256) (sym (get_or-map constraint rules i r (constraint r) here))
     ∙ every_at (lawful 256) (map constraint rules) (constraint r) law i (omega (arith, length-map rules constraint))
-
--- ---- first the named, then the recovered
-
-pub both_gathered : (rules : List Constraint) → reduce_from (reduce_from (Some []) (gathered named_by rules)) (gathered (recovered_by (clauses rules)) rules) ≡ reduce (parities 256 rules)
-both_gathered rules =
-    ap₂ (λ es xs. reduce_from (reduce_from (Some []) es) xs) (gathered_named rules) (gathered_recovered rules)
-    ∙ sym (reduce_append (named 256 rules) (equations_of 256 (clauses rules)) (Some []))
-    ∙ repeats 256 rules

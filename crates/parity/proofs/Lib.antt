@@ -8,5 +8,6 @@ pub mod Linking
 pub mod Values
 pub mod Recovered
 pub mod Room
+pub mod Filtered
 pub mod Gathered
 pub mod Told

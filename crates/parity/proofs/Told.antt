@@ -1,8 +1,8 @@
 -- What a reduction tells is right.
-use Rattle.std.proofs.Common.{◌≡◌, ℕ, ◌+◌, ◌<◌, ◌≤◌, Bool, true, false, List, [], ◌∷◌, ◌++◌, map, length, get_or, take, Some, Option, sym, refl, ap, ◌∙◌, ap₂, arith}
+use Rattle.std.proofs.Common.{◌≡◌, ℕ, ◌+◌, ◌<◌, ◌≤◌, true, List, [], ◌∷◌, ◌++◌, map, length, get_or, take, Some, Ok, Err, is_ok, Option, Result, true≢false, sym, refl, ap, ◌∙◌, ap₂, arith}
 use Rattle.std.proofs.lemmas.List.{length-map, map_push, map_more}
 use Rattle.std.proofs.lemmas.Bool.{and_parts, and_from}
-use Rattle.rules.specs.declared.rows.Row.{Row}
+use Rattle.rules.specs.declared.parities.ParityRule.{ParityRule}
 use Rattle.rules.specs.First.{every}
 use Rattle.rules.specs.Constraints.{Constraint, kind, switches}
 use Rattle.rules.specs.Lawful.{inside, different, width_fits, lawful}
@@ -30,23 +30,25 @@ module _ (n m : ℕ) (l : n ≤ m) where
 
 -- ---- the rows that are written
 
-pub written_more : (out : List Row) (solved : List Solved) (i : ℕ) (s : Solved) (r : Row) → i < length solved → s ≡ get_or solved i s → row_constraint r ≡ as_rule (solved_row s) → map row_constraint out ≡ map as_rule (map solved_row (take i solved)) → map row_constraint (out ++ (r ∷ [])) ≡ map as_rule (map solved_row (take (i + 1) solved))
+pub written_more : (out : List (ParityRule 256)) (solved : List Solved) (i : ℕ) (s : Solved) (r : ParityRule 256) → i < length solved → s ≡ get_or solved i s → row_constraint r ≡ as_rule (solved_row s) → map row_constraint out ≡ map as_rule (map solved_row (take i solved)) → map row_constraint (out ++ (r ∷ [])) ≡ map as_rule (map solved_row (take (i + 1) solved))
 written_more out solved i s r here is e inv =
     map_push row_constraint out r
     ∙ ap₂ (λ l x. l ++ (x ∷ [])) inv (e ∙ ap (λ q. as_rule (solved_row q)) is)
     ∙ sym (ap (map as_rule) (map_more solved_row solved i s here) ∙ map_push as_rule (map solved_row (take i solved)) (solved_row (get_or solved i s)))
 
-module _ (n : ℕ) (few : n ≤ 256) (rules : List Constraint) (law : LawfulRules n rules) where
-  pub told_rows : (b : Bool) (solved : List Solved) (out : List Constraint) → unless_contradiction b (map solved_row solved) ≡ reduce (parities 256 rules) → (b ≡ false → out ≡ map as_rule (map solved_row solved)) → unless_contradiction b out ≡ rows n rules
-  told_rows true solved out h e = ap as_rules h ∙ wider n 256 few rules law
-  told_rows false solved out h e = ap Some (e refl) ∙ ap as_rules h ∙ wider n 256 few rules law
+module _ (n : ℕ) (few : n ≤ 256) (rules : List Constraint) (law : LawfulRules n rules) {T E : Type 0} where
+  pub told_rows : (o : Result T E) (solved : List Solved) (out : List Constraint) → unless_contradiction o (map solved_row solved) ≡ reduce (parities 256 rules) → (is_ok o ≡ true → out ≡ map as_rule (map solved_row solved)) → unless_contradiction o out ≡ rows n rules
+  told_rows (Err x) solved out h e = ap as_rules h ∙ wider n 256 few rules law
+  told_rows (Ok x) solved out h e = ap Some (e refl) ∙ ap as_rules h ∙ wider n 256 few rules law
 
-  pub told_few : (b : Bool) (solved : List Solved) → unless_contradiction b (map solved_row solved) ≡ reduce (parities 256 rules) → b ≡ false → length solved ≤ n
-  told_few b solved h e =
+  pub told_few : (o : Result T E) (solved : List Solved) → unless_contradiction o (map solved_row solved) ≡ reduce (parities 256 rules) → is_ok o ≡ true → length solved ≤ n
+  told_few (Err x) solved h e = absurd (true≢false (sym e))
+  told_few (Ok x) solved h e =
       let out = map as_rule (map solved_row solved) in
-      let all = rows_few n rules out (sym (told_rows b solved out h (λ _. refl)) ∙ ap (λ t. unless_contradiction t out) e) in
+      let all = rows_few n rules out (sym (told_rows (Ok x) solved out h (λ _. refl))) in
       omega (arith, all, length-map (map solved_row solved) as_rule, length-map solved solved_row)
 
+module _ (n : ℕ) (rules : List Constraint) (law : LawfulRules n rules) where
   pub told_right : (told : Option (List Constraint)) → told ≡ rows n rules → Right n rules told
   told_right told h = record {
     reduced = λ rs e. reduction_right.reduced n rules rs law (sym h ∙ e);

@@ -1,6 +1,7 @@
 -- Clauses on exactly the same switches have the same sum of switches, so they share a bucket.
-use Rattle.std.proofs.Common.{◌≡◌, ℕ, zero, suc, ◌+◌, ◌%◌, ◌<◌, ◌≤◌, Bool, true, false, cond, eqb, ◌⊎◌, List, [], ◌∷◌, map, length, Some, None, Option, sym, refl, ap, ◌∙◌, ap₂, inl, inr, arith}
+use Rattle.std.proofs.Common.{◌≡◌, ℕ, zero, suc, ◌+◌, ◌%◌, ◌<◌, ◌≤◌, Bool, true, false, cond, eqb, ◌⊎◌, List, [], ◌∷◌, map, length, Some, None, Option, sym, refl, ap, ◌∙◌, ap₂, inl, inr, true≢false, sum, arith}
 use Rattle.std.proofs.lemmas.List.{length-map}
+use Rattle.std.proofs.lemmas.List.Sums.{sum_by-cons}
 use Rattle.std.proofs.lemmas.Bool.{cases_Bool, cases_eq, eqb-true, eq-eqb, ne_eqb, le-ltb, cond-true, cond-false}
 use Rattle.rules.specs.declared.literals.Literal.{Literal}
 use Rattle.rules.specs.Settings.{Within}
@@ -8,7 +9,7 @@ use Rattle.rules.specs.Constraints.{Constraint, clause, parity, switch_of, Each}
 use Rattle.rules.specs.Lawful.{absent, lawful}
 use Rattle.parity_theory.proofs.Members.{Proper, lawful_proper, proper_tail, proper_new, proper_first, Alike}
 use Rattle.parity.specs.Places.{breaking_value, with_value, values_place, breaking_place}
-use Rattle.parity.specs.Buckets.{total, shared_bucket, bucket}
+use Rattle.parity.specs.Buckets.{shared_bucket, is_bucket, is_in}
 use Rattle.parity.proofs.Breaking.{alike_when, value_present}
 
 -- ---- the sum of different switches, by which of the switches they are
@@ -40,12 +41,12 @@ weight_same : (f g : ℕ → Bool) → ((v : ℕ) → f v ≡ g v) → (n : ℕ)
 weight_same f g h zero = refl
 weight_same f g h (suc n) = ap₂ (λ k b. k + cond b 0 (suc n)) (weight_same f g h n) (h (suc n))
 
-total_weight : (n : ℕ) (vs : List ℕ) → Proper n vs → total vs ≡ weight (λ k. absent k vs) n
-total_weight n [] h = sym (weight_none n)
-total_weight n (v ∷ vs) h = ap (λ k. v + k) (total_weight n vs (proper_tail n v vs h)) ∙ sym (weight_more n v vs (proper_new n v vs h) (proper_first n v vs h))
+sum_weight : (n : ℕ) (vs : List ℕ) → Proper n vs → sum vs ≡ weight (λ k. absent k vs) n
+sum_weight n [] h = sym (weight_none n)
+sum_weight n (v ∷ vs) h = sum_by-cons (λ x. x) v vs ∙ ap (λ k. v + k) (sum_weight n vs (proper_tail n v vs h)) ∙ sym (weight_more n v vs (proper_new n v vs h) (proper_first n v vs h))
 
-alike_total : (n : ℕ) (vs ws : List ℕ) → Proper n vs → Proper n ws → Alike vs ws → total vs ≡ total ws
-alike_total n vs ws h k same = total_weight n vs h ∙ weight_same (λ v. absent v vs) (λ v. absent v ws) same n ∙ sym (total_weight n ws k)
+alike_sum : (n : ℕ) (vs ws : List ℕ) → Proper n vs → Proper n ws → Alike vs ws → sum vs ≡ sum ws
+alike_sum n vs ws h k same = sum_weight n vs h ∙ weight_same (λ v. absent v vs) (λ v. absent v ws) same n ∙ sym (sum_weight n ws k)
 
 -- ---- a clause in another bucket is on other switches
 
@@ -60,20 +61,21 @@ placed_present ls (v ∷ vs) p h = by (placed_present ls vs) (breaking_value ls 
     by ih (Some b) (Some q) e f g = (value_present ls v b e, ih q f)
 
 module _ (vs : List ℕ) (b : ℕ) (ok : Proper 256 vs) (few : length vs ≤ 5) (is : b ≡ shared_bucket vs) where
-  same_bucket : (ls : List Literal) (p : ℕ) → lawful 256 (clause ls) ≡ true → length ls ≡ length vs → values_place ls vs ≡ Some p → bucket (clause ls) ≡ b
+  same_bucket : (ls : List Literal) (p : ℕ) → lawful 256 (clause ls) ≡ true → length ls ≡ length vs → values_place ls vs ≡ Some p → is_in b (clause ls) ≡ true
   same_bucket ls p law size h =
       let own = lawful_proper 256 (clause ls) law in
       let long : length vs ≡ length (map switch_of ls) = sym size ∙ sym (length-map ls switch_of) in
       let alike = alike_when 256 vs (map switch_of ls) ok own long (placed_present ls vs p h) in
-      cond-false _ _ _ (le-ltb 5 (length ls) (omega arith)) ∙ ap (λ k. k % 256) (alike_total 256 (map switch_of ls) vs own ok alike) ∙ sym is
+      ap (is_bucket b) (cond-false _ _ _ (le-ltb 5 (length ls) (omega arith)))
+      ∙ eq-eqb (shared_bucket (map switch_of ls)) b (ap (λ k. k % 256) (alike_sum 256 (map switch_of ls) vs own ok alike) ∙ sym is)
 
-  pub other_bucket : (r : Constraint) → lawful 256 r ≡ true → (bucket r ≡ b → ⊥) → breaking_place vs r ≡ None
+  pub other_bucket : (r : Constraint) → lawful 256 r ≡ true → is_in b r ≡ false → breaking_place vs r ≡ None
   other_bucket (parity ws side) law other = refl
   other_bucket (clause ls) law other = by (cases_Bool (eqb (length ls) (length vs)))
     where
       at : (o : Option ℕ) → length ls ≡ length vs → values_place ls vs ≡ o → values_place ls vs ≡ None
       at None size h = h
-      at (Some p) size h = absurd (other (same_bucket ls p law size h))
+      at (Some p) size h = absurd (true≢false (sym (same_bucket ls p law size h) ∙ other))
 
       by : (eqb (length ls) (length vs) ≡ true) ⊎ (eqb (length ls) (length vs) ≡ false) → breaking_place vs (clause ls) ≡ None
       by (inl e) = cond-true _ _ _ e ∙ at (values_place ls vs) (eqb-true (length ls) (length vs) e) refl

@@ -1,7 +1,8 @@
 -- The values that break a clause, switch by switch, as they are looked for.
-use Rattle.std.proofs.Common.{◌≡◌, ℕ, zero, suc, ◌+◌, ◌*◌, ◌^◌, ◌<◌, ◌≤◌, Bool, true, false, cond, not, eqb, List, [], ◌∷◌, length, get_or, drop, Some, None, Option, sym, refl, ap, ◌∙◌, ap₂, inl, inr, arith, pow_mono}
+use Rattle.std.proofs.Common.{◌≡◌, ℕ, zero, suc, ◌+◌, ◌*◌, ◌^◌, ◌<◌, ◌≤◌, Bool, true, false, cond, not, eqb, List, [], ◌∷◌, length, get_or, Some, None, Option, option_map, find, ◌++◌, ◌-◌, reverse, sym, refl, ap, ◌∙◌, ap₂, inl, inr, arith, pow_mono}
+use denote.Ref.{Bor}
 use mir.Val.{bool_byte}
-use Rattle.std.proofs.lemmas.List.{at_drop_more, at_drop_all}
+use Rattle.std.proofs.lemmas.List.{reverse-append, get_or-reverse}
 use Rattle.std.proofs.lemmas.Bool.{cases_Bool, cond-true, cond-false, eq-eqb, ne_eqb}
 use Rattle.rules.specs.declared.literals.Literal.{Literal}
 use Rattle.rules.specs.Constraints.{clause}
@@ -9,16 +10,21 @@ use Rattle.rules.specs.Rows.{bit}
 use Rattle.parity.specs.Places.{breaking_value, with_value, values_place, breaking_place}
 use Rattle.parity.proofs.Breaking.{values_below}
 
--- a value that breaks a clause, looked for from the first literal on
-module _ (ls : List Literal) (i v : ℕ) (d : Literal) (here : i < length ls) (sofar : breaking_value (drop i ls) v ≡ breaking_value ls v) where
-  step : breaking_value ls v ≡ cond (eqb (get_or ls i d).switch v) (Some (not (get_or ls i d).on)) (breaking_value (drop (i + 1) ls) v)
-  step = sym sofar ∙ at_drop_more (λ l. breaking_value l v) ls i d here
+-- a value that breaks a clause is that of the first literal on the switch
+pub breaking_found : (r : Option (Bor Literal)) (ls : List Literal) (v : ℕ) → option_map (λ y. y.now) r ≡ find (λ (l : Literal). eqb l.switch v) ls → option_map (λ y. not y.now.on) r ≡ breaking_value ls v
+breaking_found r ls v h = compose r ∙ ap (option_map (λ (l : Literal). not l.on)) h ∙ value ls
+  where
+    compose : (o : Option (Bor Literal)) → option_map (λ y. not y.now.on) o ≡ option_map (λ (l : Literal). not l.on) (option_map (λ y. y.now) o)
+    compose None = refl
+    compose (Some y) = refl
 
-  pub value_here : (get_or ls i d).switch ≡ v → Some (not (get_or ls i d).on) ≡ breaking_value ls v
-  value_here e = sym (step ∙ cond-true _ _ _ (eq-eqb (get_or ls i d).switch v e))
-
-  pub value_next : ((get_or ls i d).switch ≡ v → ⊥) → breaking_value (drop (i + 1) ls) v ≡ breaking_value ls v
-  value_next ne = sym (step ∙ cond-false _ _ _ (ne_eqb (get_or ls i d).switch v ne))
+    value : (ms : List Literal) → option_map (λ (l : Literal). not l.on) (find (λ (l : Literal). eqb l.switch v) ms) ≡ breaking_value ms v
+    value [] = refl
+    value (m ∷ ms) = by (eqb m.switch v) (value ms)
+      where
+        by : (t : Bool) → option_map (λ (l : Literal). not l.on) (find (λ (l : Literal). eqb l.switch v) ms) ≡ breaking_value ms v → option_map (λ (l : Literal). not l.on) (cond t (Some m) (find (λ (l : Literal). eqb l.switch v) ms)) ≡ cond t (Some (not m.on)) (breaking_value ms v)
+        by true ih = refl
+        by false ih = ih
 
 -- one switch that the clause lacks
 with_none : (o : Option Bool) → with_value o None ≡ None
@@ -32,17 +38,19 @@ values_absent ls (v ∷ vs) (suc i) l h = ap (with_value (breaking_value ls v)) 
 
 -- the place of values, from the last switch to the first
 module _ (ls : List Literal) (vs : List ℕ) where
-  pub place_none : values_place ls (drop (length vs) vs) ≡ Some 0
-  place_none = at_drop_all (values_place ls) vs (length vs) (omega arith)
-
-  pub place_more : (i p : ℕ) (b : Bool) → i < length vs → values_place ls (drop (i + 1) vs) ≡ Some p → Some b ≡ breaking_value ls (get_or vs i 0) → values_place ls (drop i vs) ≡ Some (2 * p + bit b)
-  place_more i p b l h e = at_drop_more (values_place ls) vs i 0 l ∙ ap₂ with_value (sym e) h
+  -- what is passed, from the last on, and the switch before it
+  pub place_more : (passed : List ℕ) (v p : ℕ) (b : Bool) → values_place ls (reverse passed) ≡ Some p → Some b ≡ breaking_value ls v → values_place ls (reverse (passed ++ (v ∷ []))) ≡ Some (2 * p + bit b)
+  place_more passed v p b h e = ap (values_place ls) (reverse-append passed (v ∷ [])) ∙ ap₂ with_value (sym e) h
 
   pub place_other : (length ls ≡ length vs → ⊥) → None ≡ breaking_place vs (clause ls)
   place_other ne = sym (cond-false _ _ _ (ne_eqb (length ls) (length vs) ne))
 
   pub place_found : (o : Option ℕ) → length ls ≡ length vs → values_place ls vs ≡ o → o ≡ breaking_place vs (clause ls)
   place_found o e h = sym (cond-true _ _ _ (eq-eqb (length ls) (length vs) e) ∙ h)
+
+  -- a switch, counted from the last, that the clause lacks
+  pub place_absent : (i : ℕ) → i < length vs → None ≡ breaking_value ls (get_or (reverse vs) i 0) → values_place ls vs ≡ None
+  place_absent i l h = values_absent ls vs (length vs - 1 - i) (omega arith) (ap (breaking_value ls) (sym (get_or-reverse vs i 0 l)) ∙ sym h)
 
 -- a place is an index of the marks
 pub small_place : (ls : List Literal) (vs : List ℕ) (p : ℕ) → length vs ≤ 5 → values_place ls vs ≡ Some p → p < 32

@@ -1,10 +1,10 @@
 -- The equations of the parity rules that stand, rule by rule.
-use Rattle.std.specs.Prelude.{◌≡◌, cond, ◌&&◌, List, [], ◌∷◌, Some, None, Option}
+use Rattle.std.specs.Prelude.{◌≡◌, cond, ◌&&◌, List, Some, None, Option}
 use Rattle.rules.specs.declared.literals.Literal.{Literal}
 use Rattle.rules.specs.Constraints.{Constraint, clause, parity}
 use Rattle.parity_theory.specs.Equations.{Equation, equation}
 use Rattle.parity_theory.specs.Recovering.{narrow, recovers, equation_of}
-use Rattle.parity_theory.specs.Reducing.{Row, extended, reduce}
+use Rattle.parity_theory.specs.Reducing.{Row, reduce}
 
 -- the equation of a parity rule
 abbrev pub named_by : Constraint → Option Equation
@@ -16,21 +16,6 @@ abbrev pub recovered_by : List (List Literal) → Constraint → Option Equation
 recovered_by cs (clause ls) = cond (narrow ls && recovers cs ls) (Some (equation_of 256 ls)) None
 recovered_by cs (parity vs side) = None
 
--- an equation in front of others, if there is one
-abbrev pub in_front : Option Equation → List Equation → List Equation
-in_front None es = es
-in_front (Some e) es = e ∷ es
-
--- the equations that the rules give, in the order of the rules
-abbrev pub gathered : (Constraint → Option Equation) → List Constraint → List Equation
-gathered f [] = []
-gathered f (r ∷ rules) = in_front (f r) (gathered f rules)
-
--- the rows with an equation, if there is one
-abbrev pub taken_in : Option (List Row) → Option Equation → Option (List Row)
-taken_in rows None = rows
-taken_in rows (Some e) = extended rows e
-
 -- the rows are those of some equations
-abbrev pub OfEquations : Option (List Row) → Type 0
-OfEquations rows = (es : List Equation) × (rows ≡ reduce es)
+abbrev pub OfEquations : List Row → Type 0
+OfEquations rows = (es : List Equation) × (Some rows ≡ reduce es)

@@ -23,7 +23,7 @@ switches_told r = r.switches
 
 -- the rows, absent on contradiction
 abbrev pub rows_told : Reduction → Option (List Constraint)
-rows_told r = unless_contradiction r.elimination.contradiction (map row_constraint (vec_items r.rows))
+rows_told r = unless_contradiction r.outcome (map row_constraint (vec_items r.rows))
 
 -- told is the reduction of the parity rules that stand among the rules over n switches
 pub record Right (n : ℕ) (rules : List Constraint) (told : Option (List Constraint)) : Type 0 where

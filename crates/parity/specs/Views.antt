@@ -1,5 +1,5 @@
 -- What the values of elimination say.
-use Rattle.std.specs.Prelude.{ℕ, suc, Bool, true, false, Some, None, Option}
+use Rattle.std.specs.Prelude.{ℕ, suc, Some, None, Ok, Err, Option, Result}
 use Rattle.parity_theory.specs.Equations as theory
 use Rattle.parity_theory.specs.Reducing.{Row, row}
 use Rattle.parity.specs.declared.equations.Equation.{Equation}
@@ -19,6 +19,6 @@ switch_at (Some i) = Some (suc i)
 switch_at None = None
 
 -- rows, absent on contradiction
-abbrev pub unless_contradiction : {X : Type 0} → Bool → X → Option X
-unless_contradiction true rows = None
-unless_contradiction false rows = Some rows
+abbrev pub unless_contradiction : {T E X : Type 0} → Result T E → X → Option X
+unless_contradiction (Ok _) rows = Some rows
+unless_contradiction (Err _) rows = None

@@ -4,7 +4,6 @@ ghost use Rattle.rules.specs.Constraints.{clause};
 ghost use Rattle.rules.specs.Views.{constraint};
 ghost use Rattle.parity.specs.Places.{breaking_value, breaking_place, marked, off_side_at};
 
-use crate::conversion::is_odd;
 use rules::kinds::Side;
 use rules::literals::Literal;
 use rules::rule::Rule;
@@ -13,12 +12,10 @@ use rules::rule::Rule;
 fn breaking_value(literals: &[Literal], switch: u16) -> Option<bool>
     ensures { result ≡ breaking_value literals.now switch }
 {
-    for literal in literals {
-        if literal.switch == switch {
-            return Some(!literal.on);
-        }
-    }
-    None
+    literals
+        .iter()
+        .find(|literal| literal.switch == switch)
+        .map(|literal| !literal.on)
 }
 
 // The place, among all settings of the switches, of the one that breaks a clause, if that is on exactly these.
@@ -30,11 +27,8 @@ fn breaking_place(literals: &[Literal], switches: &[u16]) -> Option<usize>
         return None;
     }
     let mut place = 0;
-    for i in (0..switches.len()).rev() {
-        match breaking_value(literals, switches[i]) {
-            None => return None,
-            Some(on) => place = 2 * place + usize::from(on),
-        }
+    for switch in switches.iter().rev() {
+        place = 2 * place + usize::from(breaking_value(literals, *switch)?);
     }
     Some(place)
 }
@@ -47,8 +41,7 @@ pub(crate) fn mark(marks: &mut [bool], rule: &Rule, switches: &[u16])
 {
     match rule {
         Rule::Clause(clause) => {
-            let literals = &clause.literals[0..clause.width];
-            if let Some(place) = breaking_place(literals, switches) {
+            if let Some(place) = breaking_place(clause.literals(), switches) {
                 marks[place] = true;
             }
         }
@@ -61,7 +54,7 @@ fn is_off_side(side: Side, place: usize) -> bool
     ensures { result ≡ off_side_at side place }
 {
     let odd = place.count_ones() % 2 == 1;
-    odd != is_odd(side)
+    odd != side.is_odd()
 }
 
 // Every setting of `width` switches that breaks a parity rule of the side is marked.
@@ -70,10 +63,5 @@ pub(crate) fn are_all_marked(marks: &[bool], width: usize, side: Side) -> bool
     requires narrow { width ≤ 5 }
     ensures { Decides result ((k : ℕ) → k < 2 ^ width → off_side_at side k ≡ true → slice_index_or marks.now k false ≡ true) }
 {
-    for place in 0..1usize << width {
-        if is_off_side(side, place) && !marks[place] {
-            return false;
-        }
-    }
-    true
+    (0..1usize << width).all(|place| marks[place] || !is_off_side(side, place))
 }

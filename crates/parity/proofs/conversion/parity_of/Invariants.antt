@@ -1,7 +1,10 @@
-use Rattle.std.proofs.Common.{◌≡◌, not, map, length, take}
+use Rattle.std.proofs.Common.{◌≡◌, map, take}
 use Rattle.rules.specs.Constraints.{switch_of}
-use Rattle.parity_theory.specs.Recovering.{odd_negations}
+use Rattle.rules.specs.Views.{switches_of}
 use Rattle.parity.proofs.conversion.parity_of.Given as goal
 
-abbrev pub invariant-loop-i : goal.invariant-loop-i
-invariant-loop-i l = (length l.switches ≡ 16) × (take l.i l.switches ≡ map switch_of (take l.i l.literals)) × (l.odd ≡ not (odd_negations (take l.i l.literals)))
+abbrev pub invariant-loop-literal : goal.invariant-loop-literal
+invariant-loop-literal l =
+    (switches_of l.parity ≡ map switch_of (take l.literal-index l.literals))
+    × (l.parity.width ≡ l.literal-index)
+    × (l.parity.side ≡ l.initial.parity.side)

@@ -1,19 +1,40 @@
-use Rattle.std.proofs.Common.{◌^◌, ◌≤◌, sym, refl, ◌∙◌, true≢false, arith, pow_mono, below_more}
+use Rattle.std.proofs.Common.{◌≡◌, ℕ, ◌*◌, ◌%◌, ◌^◌, ◌<◌, ◌≤◌, Bool, true, false, not, ◌||◌, length, get_or, MatchBool, Decides, sym, refl, ap, ◌∙◌, true≢false, rules, tests, arith, pow_mono}
+use Rattle.std.specs.List.{range_with_len, AllWithin, HoldsAt}
+use Rattle.std.proofs.lemmas.List.FromFn.{length-range_with_len, get_or-range_with_len}
+use Rattle.std.proofs.lemmas.Iterator.{serves_from_Range, cases_from_all, YieldsList-from_range}
+use Rattle.parity.specs.Places.{off_side_at}
 use Rattle.parity.proofs.marking.are_all_marked.Goals as goal
-use Rattle.parity.proofs.marking.are_all_marked.Goals.{else-is_off_side-via-then-is_off_side+else-not-marks-place, else-is_off_side-via-else-is_off_side}
 
-pub bounds-marks-place : goal.bounds-marks-place
-bounds-marks-place c = let few : 2 ^ c.args.width ≤ 2 ^ 5 = pow_mono c.requires.narrow in omega arith
+pub all-requires-clause-callable : goal.all-requires-clause-callable
+all-requires-clause-callable c =
+    let few : 2 ^ c.args.width ≤ 2 ^ 5 = pow_mono c.requires.narrow in
+    serves_from_Range (λ x q k. search rules) (λ x a b κs p n e r l u f. omega (arith, c.requires.size))
 
-pub loop-place-preserved : goal.loop-place-preserved
-loop-place-preserved c =
-    below_more _ _ c.loop-place.invariant
-    (elim c.else-is_off_side.branch [
-      | else-is_off_side-via-then-is_off_side+else-not-marks-place w ↦ λ _. w.if-not-marks-place.false
-      | else-is_off_side-via-else-is_off_side w ↦ λ h. absurd (true≢false (sym h ∙ sym c.is_off_side.ensures ∙ w.if-is_off_side.false))
-    ])
+-- each place that has to be marked is marked
+all_decided : (r : Bool) (n : ℕ) (marked off : ℕ → Bool) → MatchBool r (AllWithin (λ k. (marked k || not (off k)) ≡ true) (range_with_len 0 n) 0 (length (range_with_len 0 n))) ((i : ℕ) × (i < length (range_with_len 0 n)) × HoldsAt (λ k. (marked k || not (off k)) ≡ false) (range_with_len 0 n) i) → Decides r ((k : ℕ) → k < n → off k ≡ true → marked k ≡ true)
+all_decided true n marked off h = (λ _ k l e. by (marked k) (off k) e (ap (λ j. marked j || not (off j)) (sym (get_or-range_with_len 0 n k 0 l ∙ omega arith)) ∙ h k 0 (omega arith) (omega (arith, length-range_with_len 0 n))), λ _. refl)
+  where
+    by : (a b : Bool) → b ≡ true → (a || not b) ≡ true → a ≡ true
+    by a b e f = grind arith
+all_decided false n marked off h = (
+  λ e. absurd (true≢false (sym e)),
+  λ all.
+      let l = length-range_with_len 0 n in
+      let here : h.0 < n = omega (arith, h.1) in
+      let fails = ap (λ j. marked j || not (off j)) (sym (get_or-range_with_len 0 n h.0 0 here ∙ omega arith)) ∙ h.2 0 in
+      absurd (by (marked h.0) (off h.0) (all h.0 here) fails),
+)
+  where
+    by : (a b : Bool) → (b ≡ true → a ≡ true) → (a || not b) ≡ false → ⊥
+    by true b f g = true≢false g
+    by false true f g = true≢false (sym (f refl))
+    by false false f g = true≢false g
 
 pub returns : goal.returns
 returns c =
+    let marks = c.args.marks.now in
+    let side = c.args.side in
     let few : 2 ^ c.args.width ≤ 2 ^ 5 = pow_mono c.requires.narrow in
-    (λ _ k h. c.loop-place.invariant k (omega arith), λ _. refl)
+    let road = YieldsList-from_range 0 ((1 * 2 ^ c.args.width) % 18446744073709551616) (2 ^ c.args.width) refl (omega arith) in
+    let checked = cases_from_all _ _ _ (λ k. (get_or marks k false || not (off_side_at side k)) ≡ true) (λ k. (get_or marks k false || not (off_side_at side k)) ≡ false) c.all.ensures.ran road (λ x q k. search (rules, tests)) (λ x q k. search (rules, tests)) in
+    all_decided c.all.result (2 ^ c.args.width) (λ k. get_or marks k false) (off_side_at side) checked

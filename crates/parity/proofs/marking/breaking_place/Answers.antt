@@ -1,44 +1,54 @@
-use Rattle.std.proofs.Common.{◌≡◌, ℕ, ◌+◌, ◌-◌, ◌*◌, ◌<◌, ◌≤◌, List, length, drop, Some, sym, ap, ◌∙◌, arith}
-use Rattle.std.proofs.lemmas.List.{length-drop}
+use Rattle.std.proofs.Common.{◌≡◌, ℕ, ◌+◌, ◌*◌, ◌<◌, ◌≤◌, List, map, length, get_or, reverse, Some, None, sym, ap, ◌∙◌, arith, rules}
+use denote.Ref.{Bor}
+use Rattle.std.proofs.lemmas.List.{length-map, length-reverse, map_push, reverse-reverse, get_or_read}
+use Rattle.std.proofs.lemmas.Iterator.Adapters.{YieldsList-from_rev_slice}
+use Rattle.std.proofs.lemmas.Iterator.Consumers.{YieldsList-turn, YieldsList-end}
 use Rattle.rules.specs.declared.literals.Literal.{Literal}
-use Rattle.parity.specs.Places.{values_place}
-use Rattle.parity.proofs.Values.{place_none, place_more, place_other, place_found, values_absent, small_place, byte_bit}
+use Rattle.parity.specs.Places.{breaking_value, values_place}
+use Rattle.parity.proofs.Values.{place_more, place_found, place_absent, small_place, byte_bit}
 use Rattle.parity.proofs.Places.{bit_small}
 use Rattle.parity.proofs.marking.breaking_place.Goals as goal
 
-pub returns-then-literals-switches : goal.returns-then-literals-switches
-returns-then-literals-switches c = place_other c.args.literals.now c.args.switches.now c.if-literals-switches.true
-
-pub loop-i-init : goal.loop-i-init
-loop-i-init c = place_none c.args.literals.now c.args.switches.now
-
-pub returns-in-None : goal.returns-in-None
-returns-in-None c =
-    let ls = c.args.literals.now in
-    let vs = c.args.switches.now in
-    place_found ls vs _ c.if-literals-switches.false (values_absent ls vs (c.loop-i.i - 1) (omega arith) (sym c.in-None.ensures))
-
--- the place so far is an index of the marks
-small : (ls : List Literal) (vs : List ℕ) (i p : ℕ) → length vs ≤ 5 → values_place ls (drop i vs) ≡ Some p → p < 32
-small ls vs i p l h = let e = length-drop i vs in small_place ls (drop i vs) p (omega arith) h
+-- the place of the switches that are passed is an index of the marks
+small : (ls : List Literal) (vs : List ℕ) (passed : List (Bor ℕ)) (p : ℕ) → length vs ≤ 5 → length passed < length (reverse vs) → values_place ls (reverse (map (λ v. v.now) passed)) ≡ Some p → p < 32
+small ls vs passed p few l h =
+    small_place ls (reverse (map (λ v. v.now) passed)) p (omega (arith, length-reverse vs, length-reverse (map (λ (v : Bor ℕ). v.now) passed), length-map passed (λ (v : Bor ℕ). v.now))) h
 
 pub overflow_mul-place : goal.overflow_mul-place
-overflow_mul-place c = omega (arith, small c.args.literals.now c.args.switches.now c.loop-i.i c.loop-i.place c.requires c.loop-i.invariant)
+overflow_mul-place c =
+    let turn = YieldsList-turn (YieldsList-from_rev_slice c.args.switches.now (cc)) c.loop-switch.yielded _ c.loop-switch.yielded_by _ _ _ c.in-Some.is c.next.ensures.steps in
+    omega (arith, small c.args.literals.now c.args.switches.now c.loop-switch.yielded c.loop-switch.place c.requires turn.0 c.loop-switch.invariant)
 
 pub overflow_add-place : goal.overflow_add-place
-overflow_add-place c = omega (arith, small c.args.literals.now c.args.switches.now c.loop-i.i c.loop-i.place c.requires c.loop-i.invariant, byte_bit c.in-Some.on, bit_small c.in-Some.on)
+overflow_add-place c =
+    let turn = YieldsList-turn (YieldsList-from_rev_slice c.args.switches.now (cc)) c.loop-switch.yielded _ c.loop-switch.yielded_by _ _ _ c.in-Some.is c.next.ensures.steps in
+    omega (arith, small c.args.literals.now c.args.switches.now c.loop-switch.yielded c.loop-switch.place c.requires turn.0 c.loop-switch.invariant, c.from.ensures, byte_bit c.in_ok-breaking_value.field-0, bit_small c.in_ok-breaking_value.field-0)
 
-pub loop-i-preserved : goal.loop-i-preserved
-loop-i-preserved c =
+pub returns-in_err-breaking_value : goal.returns-in_err-breaking_value
+returns-in_err-breaking_value c =
     let ls = c.args.literals.now in
     let vs = c.args.switches.now in
-    let i = c.loop-i.i - 1 in
-    let next : i + 1 ≡ c.loop-i.i = omega arith in
-    place_more ls vs i c.loop-i.place c.in-Some.on (omega arith) (ap (λ k. values_place ls (drop k vs)) next ∙ c.loop-i.invariant) c.in-Some.ensures
-    ∙ ap (λ b. Some (2 * c.loop-i.place + b)) (sym (c.from.ensures ∙ byte_bit c.in-Some.on))
+    let i = length c.loop-switch.yielded in
+    let turn = YieldsList-turn (YieldsList-from_rev_slice vs (cc)) c.loop-switch.yielded _ c.loop-switch.yielded_by _ _ _ c.in-Some.is c.next.ensures.steps in
+    let read : c.in-Some.switch.now ≡ get_or (reverse vs) i 0 = get_or_read (reverse vs) i _ turn.0 turn.1 0 in
+    let lacks : None ≡ breaking_value ls c.in-Some.switch.now = search rules in
+    let none : c.from_residual.result ≡ None = search rules in
+    none ∙ place_found ls vs None c.if-literals-switches.false (place_absent ls vs i (omega (arith, turn.0, length-reverse vs)) (lacks ∙ ap (breaking_value ls) read))
+
+pub loop-switch-preserved : goal.loop-switch-preserved
+loop-switch-preserved c =
+    let ls = c.args.literals.now in
+    let passed = c.loop-switch.yielded in
+    let on = c.in_ok-breaking_value.field-0 in
+    let has : Some on ≡ breaking_value ls c.in-Some.switch.now = search rules in
+    ap (λ l. values_place ls (reverse l)) (map_push (λ (v : Bor ℕ). v.now) passed c.in-Some.switch)
+    ∙ place_more ls c.args.switches.now (map (λ (v : Bor ℕ). v.now) passed) c.in-Some.switch.now c.loop-switch.place on c.loop-switch.invariant has
+    ∙ ap (λ b. Some (2 * c.loop-switch.place + b)) (sym (c.from.ensures ∙ byte_bit on))
 
 pub returns : goal.returns
 returns c =
+    let ls = c.args.literals.now in
     let vs = c.args.switches.now in
-    let none : 0 ≡ c.loop-i.i = omega arith in
-    place_found c.args.literals.now vs _ c.if-literals-switches.false (ap (λ k. values_place c.args.literals.now (drop k vs)) none ∙ c.loop-i.invariant)
+    let all = YieldsList-end (YieldsList-from_rev_slice vs (cc)) c.loop-switch.yielded _ c.loop-switch.yielded_by _ _ c.in-None.is c.next.ensures.steps in
+    place_found ls vs (Some c.loop-switch.place) c.if-literals-switches.false
+    (ap (values_place ls) (sym (ap reverse all.0 ∙ reverse-reverse vs)) ∙ c.loop-switch.invariant)

@@ -1,7 +1,7 @@
-use Rattle.std.proofs.Common.{◌≡◌, drop, Some}
+use Rattle.std.proofs.Common.{◌≡◌, map, reverse, Some}
 use Rattle.parity.specs.Places.{values_place}
 use Rattle.parity.proofs.marking.breaking_place.Given as goal
 
--- the place of the values of the switches from the index on
-abbrev pub invariant-loop-i : goal.invariant-loop-i
-invariant-loop-i l = values_place l.literals (drop l.i l.switches) ≡ Some l.place
+-- the place of the values of the switches that are passed, from the last on
+abbrev pub invariant-loop-switch : goal.invariant-loop-switch
+invariant-loop-switch l = values_place l.literals (reverse (map (λ v. v.now) l.yielded)) ≡ Some l.place

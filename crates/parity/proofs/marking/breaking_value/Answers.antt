@@ -1,14 +1,15 @@
-use Rattle.std.proofs.Common.{false, sym, ◌∙◌}
-use Rattle.std.proofs.lemmas.List.{at_drop_all}
-use Rattle.parity.specs.Places.{breaking_value}
-use Rattle.parity.proofs.Values.{value_here, value_next}
+use Rattle.std.proofs.Common.{◌≡◌, not, eqb, option_map, ◌∙◌, rules, tests}
+use Rattle.std.proofs.lemmas.Iterator.{YieldsList-from_slice}
+use Rattle.std.proofs.lemmas.Iterator.Search.{find_from_yields_List}
+use denote.Ref.{Bor}
+use Rattle.rules.specs.declared.literals.Literal.{Literal}
+use Rattle.parity.proofs.Values.{breaking_found}
 use Rattle.parity.proofs.marking.breaking_value.Goals as goal
 
-pub returns-then-literal-switch : goal.returns-then-literal-switch
-returns-then-literal-switch c = value_here c.args.literals.now c.loop-literal.literal-index c.args.switch (record { switch = 0; on = false }) c.loop-literal-test.true c.loop-literal.invariant c.if-literal-switch.true
-
-pub loop-literal-preserved : goal.loop-literal-preserved
-loop-literal-preserved c = value_next c.args.literals.now c.loop-literal.literal-index c.args.switch (record { switch = 0; on = false }) c.loop-literal-test.true c.loop-literal.invariant c.if-literal-switch.false
-
 pub returns : goal.returns
-returns c = sym (at_drop_all (λ l. breaking_value l c.args.switch) c.args.literals.now c.loop-literal.literal-index c.loop-literal-test.false) ∙ c.loop-literal.invariant
+returns c =
+    let ls = c.args.literals.now in
+    let v = c.args.switch in
+    let found = find_from_yields_List (λ (l : Literal). eqb l.switch v) _ _ c.find.result c.find.ensures.ran (YieldsList-from_slice ls (cc)) (λ x b q k. search (rules, tests)) in
+    let is : c.map.result ≡ option_map (λ (y : Bor Literal). not y.now.on) c.find.result = search rules in
+    is ∙ breaking_found c.find.result ls v found

@@ -1,7 +1,0 @@
-use Rattle.std.proofs.Common.{Some, sym, ap, ◌∙◌}
-use Rattle.rules.specs.Views.{constraint}
-use Rattle.parity.specs.Gathering.{named_by}
-use Rattle.parity.proofs.recovery.named_equation.Goals as goal
-
-pub returns-in-Parity : goal.returns-in-Parity
-returns-in-Parity c = ap Some c.equation_of.ensures ∙ ap (λ r. named_by (constraint r)) (sym c.in-Parity.is)
