@@ -6,5 +6,7 @@ pub mod Reduction
 pub mod Tables
 pub mod Opening
 pub mod Standings
+pub mod Standing
+pub mod Nexts
 pub mod Budgets
 pub mod Endings

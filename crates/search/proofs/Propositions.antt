@@ -39,6 +39,7 @@ part_set = Π_set (λ v. value_set)
 pub standing_prop : (n : ℕ) (rules : List Constraint) (s : State) → IsProp (Standing n rules s)
 standing_prop n rules s x y = λ i. record {
   reached = ∥∥₁_prop x.reached y.reached i;
+  level = hedberg ℕ_discrete _ _ x.level y.level i;
   below = Π_prop (λ j. Π_prop (λ h. part_set _ _)) x.below y.below i;
   top = part_set _ _ x.top y.top i;
   ended = Bool-set _ _ x.ended y.ended i;

@@ -1,8 +1,9 @@
 -- What a search keeps true of its state, from its first forcing on.
-use Rattle.std.proofs.Common.{◌≡◌, ℕ, zero, suc, ◌+◌, ◌<◌, ◌≤◌, Bool, true, false, not, ◌⊎◌, List, [], ◌∷◌, get_or, replicate, is_some, Some, None, Option, sym, refl, ap, ◌∙◌, subst, inl, inr, arith}
+use Rattle.std.proofs.Common.{◌≡◌, ℕ, zero, suc, ◌+◌, ◌<◌, ◌≤◌, true, false, not, ◌⊎◌, List, [], ◌∷◌, get_or, replicate, is_some, Some, None, Option, Ok, Err, Result, sym, refl, ap, ◌∙◌, subst, inl, inr, arith}
 use mathlib.Core.Path.{fun_ext}
 use mathlib.Core.Logic.{∥∥₁_elim, ∥∥₁_map}
 use native.Mathlib.Bridge.{le_prop}
+use Rattle.std.specs.Result.{is_ok}
 use Rattle.std.proofs.lemmas.Bool.{cases_lt}
 use Rattle.rules.specs.declared.literals.Literal.{Literal}
 use Rattle.rules.specs.Settings.{Within}
@@ -10,43 +11,33 @@ use Rattle.rules.specs.Constraints.{Constraint, positive}
 use Rattle.rules.specs.Rows.{Reduced}
 use Rattle.search_theory.specs.Parts.{Part, blank, put}
 use Rattle.search_theory.specs.Forcing.{any_dead, forced, Lies, Over}
-use Rattle.search_theory.specs.Tries.{part, lowest, is_open, values, found, nothing, due, step, start, more}
+use Rattle.search_theory.specs.Tries.{part, lowest, is_open, values, found, nothing, due, step, negative, start, more}
 use Rattle.search_theory.proofs.Forcing.{ends_forced}
 use Rattle.search_theory.proofs.Finding.{reduced_over}
 use Rattle.search_theory.proofs.Stacks.{step_turn, step_try, lowest_open, part_still, reach_proper, stack_set, stack_room}
-use Rattle.search.specs.declared.values.Value.TheVariants.{Unset}
+use Rattle.search.specs.declared.looking.Dead.{Dead}
+use Rattle.search.specs.declared.values.Assigned.{Assigned}
 use Rattle.search.specs.declared.values.PartSetting.{PartSetting}
 use Rattle.search.specs.declared.tries.Try.{Try}
 use Rattle.search.specs.declared.tries.Tries.{Tries}
 use Rattle.search.specs.declared.state.State.{State}
-use Rattle.search.specs.declared.state.Due.TheVariants.{Add, Turn}
-use Rattle.search.specs.Values.{part_of, upto, Puts}
+use Rattle.search.specs.Values.{value, part_of, upto, back, Puts}
 use Rattle.search.specs.Moves.{Moves, Ends}
 use Rattle.search.specs.Stacks.{no_try, stack, stack_of, LatestOff, Tops}
-use Rattle.search.specs.States.{Reached, Standing, Ready, Makes, Made}
-use Rattle.search.proofs.Levels.{upto_back}
-use Rattle.search.proofs.Tables.{stack_length}
+use Rattle.search.specs.States.{Reached, Standing, Ready}
+use Rattle.search.proofs.Levels.{part_back, upto_back, upto_more}
+use Rattle.search.proofs.Tables.{stack_length, turns, turns_none}
 use Rattle.search.proofs.Opening.{open_lowest}
 use Rattle.search.proofs.Propositions.{within_prop, value_set}
 
 -- where forcing ends, in terms of the definition's forcing
-ends_part : (n : ℕ) (rules : List Constraint) → Over n rules → (p q : Part) → Lies rules p q → (d : Bool) → Ends d rules q → (any_dead (forced n rules p) rules ≡ d) × (d ≡ false → q ≡ forced n rules p)
-ends_part n rules o p q lies true e =
+ends_part : (n : ℕ) (rules : List Constraint) → Over n rules → (p q : Part) → Lies rules p q → (d : Result (Unit {0}) Dead) → Ends d rules q → (any_dead (forced n rules p) rules ≡ not (is_ok d)) × (d ≡ Ok tt → q ≡ forced n rules p)
+ends_part n rules o p q lies (Err d) e =
     let a = ends_forced n rules o p q lies (inl e) in
-    (sym a.dead ∙ e, λ h. let z : ◌≡◌ {A = ℕ} 0 1 = cc in absurd (omega arith))
-ends_part n rules o p q lies false e =
+    (sym a.dead ∙ e, λ h. absurd (cc))
+ends_part n rules o p q lies (Ok u) e =
     let a = ends_forced n rules o p q lies (inr e.quiet) in
     (sym a.dead ∙ e.live, λ _. a.equal e.live)
-
--- what is set up to a level is set up to a higher one
-upto_more : (s : PartSetting) (i j : ℕ) → i ≤ j → upto s i ≡ part_of s.values → upto s j ≡ part_of s.values
-upto_more s i j h e = fun_ext by
-  where
-    by : (v : ℕ) → upto s j v ≡ part_of s.values v
-    by zero = refl
-    by (suc v) =
-        let a : upto s i (suc v) ≡ part_of s.values (suc v) = ap (λ f. f (suc v)) e in
-        grind arith
 
 -- what is known of tries that the search comes to
 module _ (n : ℕ) (rules : List Constraint) where
@@ -72,134 +63,143 @@ module _ (n : ℕ) (rules : List Constraint) where
       omega arith)
 
 -- nothing set
-blank_part : (m : ℕ) → part_of (replicate m Unset) ≡ blank
-blank_part m = fun_ext (by m)
-  where
-    by : (m v : ℕ) → part_of (replicate m Unset) v ≡ None
-    by m zero = refl
-    by zero (suc v) = refl
-    by (suc m) (suc zero) = refl
-    by (suc m) (suc (suc v)) = by m (suc v)
+blank_at : (m v : ℕ) → value (get_or (replicate m None) v None) ≡ None
+blank_at zero v = refl
+blank_at (suc m) zero = refl
+blank_at (suc m) (suc v) = blank_at m v
 
 -- the first forcing
-module _ (n : ℕ) (rules : List Constraint) (o : Over n rules) (s t : PartSetting) (u : Tries) (d : Bool) (none : s.values ≡ replicate 256 Unset) (moves : Moves rules 0 s t) (ends : Ends d rules (part_of t.values)) where
-  nothing_set : part_of s.values ≡ blank
-  nothing_set = ap part_of none ∙ blank_part 256
+module _ (n : ℕ) (rules : List Constraint) (o : Over n rules) (s t : PartSetting) (u : Tries) (d : Result (Unit {0}) Dead) (none : s.values ≡ replicate 256 None) (bottom : s.level ≡ 0) (moves : Moves rules s t) (ends : Ends d rules (part_of t)) where
+  nothing_set : part_of s ≡ blank
+  nothing_set = fun_ext by
+    where
+      by : (v : ℕ) → part_of s v ≡ None
+      by zero = refl
+      by (suc v) = ap (λ (vs : List (Option Assigned)). value (get_or vs v None)) none ∙ blank_at 256 v
 
-  begin_top : upto s 0 ≡ part_of s.values
+  begin_top : upto s s.level ≡ part_of s
   begin_top = fun_ext by
     where
-      by : (v : ℕ) → upto s 0 v ≡ part_of s.values v
+      by : (v : ℕ) → upto s s.level v ≡ part_of s v
       by zero = refl
       by (suc v) =
-          let e : part_of s.values (suc v) ≡ None = ap (λ f. f (suc v)) nothing_set in
+          let e : part_of s (suc v) ≡ None = ap (λ f. f (suc v)) nothing_set in
           grind arith
 
-  pub begin_stands : u.count ≡ 0 → Standing n rules (record { part = t; tries = u; dead = d })
+  pub begin_stands : u.count ≡ 0 → Standing n rules (record { part = t; tries = u; forced = d })
   begin_stands z =
-      let f = ends_part n rules o blank (part_of t.values) (subst (λ p. Lies rules p (part_of t.values)) nothing_set moves.lies) d ends in
+      let f = ends_part n rules o blank (part_of t) (subst (λ p. Lies rules p (part_of t)) nothing_set moves.lies) d ends in
       let empty : stack_of u ≡ [] = ap (stack u.table) z in
       record {
         reached = subst (Reached n rules) (sym empty) ∣ (0, start) ∣₁;
+        level = moves.level ∙ bottom ∙ sym z;
         below = λ i h. absurd (omega arith);
-        top = subst (λ k. upto t k ≡ part_of t.values) (sym z) (moves.top begin_top);
-        ended = subst (λ ts. any_dead (part n rules ts) rules ≡ d) (sym empty) f.0;
-        live = λ e. subst (λ ts. part_of t.values ≡ part n rules ts) (sym empty) (f.1 e);
+        top = subst (λ k. upto t k ≡ part_of t) (bottom ∙ sym z) (moves.top begin_top);
+        ended = subst (λ ts. any_dead (part n rules ts) rules ≡ not (is_ok d)) (sym empty) f.0;
+        live = λ e. subst (λ ts. part_of t ≡ part n rules ts) (sym empty) (f.1 e);
       }
 
 -- the literal of a try set, and what it forces
-module _ (n : ℕ) (rules : List Constraint) (o : Over n rules) (l : Literal) (k : ℕ) (s : State) (ready : Ready n rules l k s)
-    (t u : PartSetting) (d : Bool) (puts : Puts l (k + 1) s.part t) (moves : Moves rules (k + 1) t u) (ends : Ends d rules (part_of u.values)) where
+module _ (n : ℕ) (rules : List Constraint) (o : Over n rules) (l : Literal) (s : State) (ready : Ready n rules l s) where
   abbrev before : List Literal
-  before = stack s.tries.table k
+  before = stack s.tries.table s.part.level
 
-  was_unset : part_of s.part.values l.switch ≡ None
+  abbrev raised : PartSetting
+  raised = record { values = s.part.values; level = s.part.level + 1 }
+
+  was_unset : part_of s.part l.switch ≡ None
   was_unset = ap (λ f. f l.switch) ready.here ∙ reached_unset n rules l before ready.reached
 
-  started : part_of t.values ≡ put (part n rules before) l
-  started = puts.part ∙ ap (λ p. put p l) ready.here
+  module _ (t u : PartSetting) (d : Result (Unit {0}) Dead) (puts : Puts l raised t) (moves : Moves rules t u) (ends : Ends d rules (part_of u)) where
+    started : part_of t ≡ put (part n rules before) l
+    started = puts.part ∙ ap (λ p. put p l) ready.here
 
-  follow_below : (i : ℕ) → i < s.tries.count → upto u i ≡ part n rules (stack s.tries.table i)
-  follow_below i h =
-      let count = ready.count in
-      let i_less : i < k + 1 = omega arith in
-      moves.below i i_less ∙ puts.below i i_less was_unset ∙ by (cases_lt i k)
-    where
-      by : (i < k) ⊎ (k ≤ i) → upto s.part i ≡ part n rules (stack s.tries.table i)
-      by (inl e) = ready.below i e
-      by (inr e) =
-          let count = ready.count in
-          let same : k ≡ i = omega arith in
-          subst (λ j. upto s.part j ≡ part n rules (stack s.tries.table j)) same (ready.top ∙ ready.here)
+    count_is : s.tries.count ≡ t.level
+    count_is = ready.count ∙ sym puts.level
 
-  pub follow_stands : Standing n rules (record { part = u; tries = s.tries; dead = d })
-  follow_stands =
-      let f = ends_part n rules o (put (part n rules before) l) (part_of u.values) (subst (λ p. Lies rules p (part_of u.values)) started moves.lies) d ends in
-      record {
-        reached = subst (Reached n rules) (sym ready.latest) ready.reached;
-        below = follow_below;
-        top = subst (λ j. upto u j ≡ part_of u.values) (sym ready.count) (moves.top (puts.top (upto_more s.part k (k + 1) (omega arith) ready.top)));
-        ended = subst (λ ts. any_dead (part n rules ts) rules ≡ d) (sym ready.latest) f.0;
-        live = λ e. subst (λ ts. part_of u.values ≡ part n rules ts) (sym ready.latest) (f.1 e);
-      }
+    follow_below : (i : ℕ) → i < s.tries.count → upto u i ≡ part n rules (stack s.tries.table i)
+    follow_below i h =
+        let count = ready.count in
+        let level : t.level ≡ s.part.level + 1 = puts.level in
+        moves.below i (omega arith) ∙ puts.below i (omega arith) was_unset ∙ by (cases_lt i s.part.level)
+      where
+        by : (i < s.part.level) ⊎ (s.part.level ≤ i) → upto s.part i ≡ part n rules (stack s.tries.table i)
+        by (inl e) = ready.below i e
+        by (inr e) =
+            let count = ready.count in
+            let same : s.part.level ≡ i = omega arith in
+            subst (λ j. upto s.part j ≡ part n rules (stack s.tries.table j)) same (ready.top ∙ ready.here)
+
+    pub follow_stands : Standing n rules (record { part = u; tries = s.tries; forced = d })
+    follow_stands =
+        let f = ends_part n rules o (put (part n rules before) l) (part_of u) (subst (λ p. Lies rules p (part_of u)) started moves.lies) d ends in
+        let set : upto t (s.part.level + 1) ≡ part_of t = puts.top (upto_more s.part s.part.level (s.part.level + 1) (omega arith) ready.top) in
+        record {
+          reached = subst (Reached n rules) (sym ready.latest) ready.reached;
+          level = moves.level ∙ sym count_is;
+          below = follow_below;
+          top = subst (λ j. upto u j ≡ part_of u) (sym count_is) (moves.top (subst (λ j. upto t j ≡ part_of t) (sym puts.level) set));
+          ended = subst (λ ts. any_dead (part n rules ts) rules ≡ not (is_ok d)) (sym ready.latest) f.0;
+          live = λ e. subst (λ ts. part_of u ≡ part n rules ts) (sym ready.latest) (f.1 e);
+        }
 
 -- what is next
 module _ (n : ℕ) (rules : List Constraint) (s : State) (st : Standing n rules s) where
-  module _ (d : s.dead ≡ true) where
-    pub next_turn : (i : ℕ) → LatestOff (Some i) s.tries → Makes (Turn i) n rules s
-    next_turn i h =
-        record {
-          fits = h.0;
-          follows = step_turn n rules (stack_of s.tries) (part n rules (stack_of s.tries)) (st.ended ∙ d) (Some (positive (get_or s.tries.table i no_try).switch ∷ stack s.tries.table i)) h.1;
-        }
+  module _ (d : not (is_ok s.forced) ≡ true) where
+    pub next_turn : (i : ℕ) → LatestOff (Some i) s.tries → step n rules (stack_of s.tries) ≡ due (positive (get_or s.tries.table i no_try).switch ∷ stack s.tries.table i)
+    next_turn i h = step_turn n rules (stack_of s.tries) (part n rules (stack_of s.tries)) (st.ended ∙ d) (Some (positive (get_or s.tries.table i no_try).switch ∷ stack s.tries.table i)) (turns s.tries i h)
 
     pub next_nothing : LatestOff None s.tries → step n rules (stack_of s.tries) ≡ nothing
-    next_nothing h = step_turn n rules (stack_of s.tries) (part n rules (stack_of s.tries)) (st.ended ∙ d) None h
+    next_nothing h = step_turn n rules (stack_of s.tries) (part n rules (stack_of s.tries)) (st.ended ∙ d) None (turns_none s.tries h)
 
-  module _ (d : s.dead ≡ false) (red : Reduced n rules) where
-    low : (x : Option ℕ) → x ≡ lowest (λ v. not (is_some (part_of s.part.values v))) n → lowest (is_open rules (part n rules (stack_of s.tries))) n ≡ x
+  module _ (d : s.forced ≡ Ok tt) (red : Reduced n rules) where
+    live : any_dead (part n rules (stack_of s.tries)) rules ≡ false
+    live = st.ended ∙ ap (λ r. not (is_ok r)) d
+
+    low : (x : Option ℕ) → x ≡ lowest (λ v. not (is_some (part_of s.part v))) n → lowest (is_open rules (part n rules (stack_of s.tries))) n ≡ x
     low x e =
-        open_lowest n rules red (part n rules (stack_of s.tries)) (part_still n rules (reduced_over n rules red) (stack_of s.tries) (st.ended ∙ d)).quiet x
+        open_lowest n rules red (part n rules (stack_of s.tries)) (part_still n rules (reduced_over n rules red) (stack_of s.tries) live).quiet x
         (sym (e ∙ ap (λ p. lowest (λ v. not (is_some (p v))) n) (st.live d)))
 
-    pub next_add : (v : ℕ) → Some v ≡ lowest (λ v. not (is_some (part_of s.part.values v))) n → Makes (Add v) n rules s
-    next_add v e = record { fits = d; follows = step_try n rules (stack_of s.tries) (part n rules (stack_of s.tries)) (st.ended ∙ d) (Some v) (low (Some v) e) }
+    pub next_add : (v : ℕ) → Some v ≡ lowest (λ v. not (is_some (part_of s.part v))) n → step n rules (stack_of s.tries) ≡ due (negative v ∷ stack_of s.tries)
+    next_add v e = step_try n rules (stack_of s.tries) (part n rules (stack_of s.tries)) live (Some v) (low (Some v) e)
 
-    pub next_found : None ≡ lowest (λ v. not (is_some (part_of s.part.values v))) n → step n rules (stack_of s.tries) ≡ found (values n (part_of s.part.values))
-    next_found e = step_try n rules (stack_of s.tries) (part n rules (stack_of s.tries)) (st.ended ∙ d) None (low None e) ∙ ap (λ p. found (values n p)) (sym (st.live d))
+    pub next_found : None ≡ lowest (λ v. not (is_some (part_of s.part v))) n → step n rules (stack_of s.tries) ≡ found (values n (part_of s.part))
+    next_found e = step_try n rules (stack_of s.tries) (part n rules (stack_of s.tries)) live None (low None e) ∙ ap (λ p. found (values n p)) (sym (st.live d))
 
 -- making the try that is due
 module _ (n : ℕ) (rules : List Constraint) (s : State) (st : Standing n rules s) where
   made_reached : (us : List Literal) → step n rules (stack_of s.tries) ≡ due us → Reached n rules us
   made_reached us e = ∥∥₁_map st.reached (λ x. (suc x.0, more x.1 e))
 
-  module _ (l : Literal) (k : ℕ) (e : step n rules (stack_of s.tries) ≡ due (l ∷ stack s.tries.table k)) where
-    pub made_room : n ≤ 256 → k < 256
-    made_room few = let room = reached_room n rules l s.tries.table k (made_reached (l ∷ stack s.tries.table k) e) in omega arith
+  pub made_room : (l : Literal) (k : ℕ) → step n rules (stack_of s.tries) ≡ due (l ∷ stack s.tries.table k) → n ≤ 256 → k < 256
+  made_room l k e few = let room = reached_room n rules l s.tries.table k (made_reached (l ∷ stack s.tries.table k) e) in omega arith
 
-    module _ (u : Tries) (tops : Tops l k s.tries u) where
-      ready_at : (t : PartSetting) (d : Bool) → ((i : ℕ) → i < k → upto t i ≡ part n rules (stack s.tries.table i)) → part_of t.values ≡ part n rules (stack s.tries.table k) → upto t k ≡ part_of t.values
-          → Ready n rules l k (record { part = t; tries = u; dead = d })
-      ready_at t d below here top =
-          let same = sym (tops.same k (omega arith)) in
-          record {
-            count = tops.count;
-            latest = tops.latest ∙ ap (λ ts. l ∷ ts) same;
-            reached = subst (λ ts. Reached n rules (l ∷ ts)) same (made_reached (l ∷ stack s.tries.table k) e);
-            below = λ i h. below i h ∙ ap (part n rules) (sym (tops.same i (omega arith)));
-            here = here ∙ ap (part n rules) same;
-            top = top;
-          }
+  module _ (l : Literal) (t : PartSetting) (e : step n rules (stack_of s.tries) ≡ due (l ∷ stack s.tries.table t.level)) (u : Tries) (tops : Tops l t.level s.tries u) where
+    ready_at : ((i : ℕ) → i < t.level → upto t i ≡ part n rules (stack s.tries.table i)) → part_of t ≡ part n rules (stack s.tries.table t.level) → upto t t.level ≡ part_of t
+        → Ready n rules l (record { part = t; tries = u; forced = s.forced })
+    ready_at below here top =
+        let same = sym (tops.same t.level (omega arith)) in
+        record {
+          count = tops.count;
+          latest = tops.latest ∙ ap (λ ts. l ∷ ts) same;
+          reached = subst (λ ts. Reached n rules (l ∷ ts)) same (made_reached (l ∷ stack s.tries.table t.level) e);
+          below = λ i h. below i h ∙ ap (part n rules) (sym (tops.same i (omega arith)));
+          here = here ∙ ap (part n rules) same;
+          top = top;
+        }
 
-      pub ready_off : s.tries.count ≡ k → s.dead ≡ false → Ready n rules l k (record { part = s.part; tries = u; dead = s.dead })
-      ready_off c d =
-          ready_at s.part s.dead (λ i h. st.below i (omega arith)) (subst (λ j. part_of s.part.values ≡ part n rules (stack s.tries.table j)) c (st.live d))
-          (subst (λ j. upto s.part j ≡ part_of s.part.values) c st.top)
+  pub ready_off : (v : ℕ) → step n rules (stack_of s.tries) ≡ due (negative v ∷ stack_of s.tries) → s.forced ≡ Ok tt → (u : Tries) → Tops (negative v) s.tries.count s.tries u → Ready n rules (negative v) (record { part = s.part; tries = u; forced = s.forced })
+  ready_off v e d u tops =
+      let level = st.level in
+      ready_at (negative v) s.part (subst (λ k. step n rules (stack_of s.tries) ≡ due (negative v ∷ stack s.tries.table k)) (sym st.level) e) u (subst (λ k. Tops (negative v) k s.tries u) (sym st.level) tops)
+      (λ i h. st.below i (omega arith)) (subst (λ k. part_of s.part ≡ part n rules (stack s.tries.table k)) (sym st.level) (st.live d)) (subst (λ k. upto s.part k ≡ part_of s.part) (sym st.level) st.top)
 
-      pub ready_on : k < s.tries.count → (t : PartSetting) → t.levels ≡ s.part.levels → part_of t.values ≡ upto s.part k → Ready n rules l k (record { part = t; tries = u; dead = s.dead })
-      ready_on h t same back =
-          ready_at t s.dead (λ i g. upto_back s.part t k i (omega arith) same back ∙ st.below i (omega arith)) (back ∙ st.below k h)
-          (upto_back s.part t k k (omega arith) same back ∙ sym back)
+  pub ready_on : (l : Literal) (k : ℕ) → step n rules (stack_of s.tries) ≡ due (l ∷ stack s.tries.table k) → k < s.tries.count → (u : Tries) → Tops l k s.tries u → Ready n rules l (record { part = back k s.part; tries = u; forced = s.forced })
+  ready_on l k e h u tops =
+      ready_at l (back k s.part) e u tops
+      (λ i g. upto_back s.part k i (omega arith) ∙ st.below i (omega arith)) (part_back s.part k ∙ st.below k h)
+      (upto_back s.part k k (omega arith) ∙ sym (part_back s.part k))
 
-      pub is_made : (t : State) → t.tries ≡ u → Standing n rules t → Made n rules s t
-      is_made t same stands = record { stands = stands; follows = e ∙ ap due (sym tops.latest) ∙ ap (λ x. due (stack_of x)) (sym same) }
+  pub is_made : (l : Literal) (k : ℕ) → step n rules (stack_of s.tries) ≡ due (l ∷ stack s.tries.table k) → (u t : Tries) → Tops l k s.tries u → t ≡ u → step n rules (stack_of s.tries) ≡ due (stack_of t)
+  is_made l k e u t tops same = e ∙ ap due (sym tops.latest) ∙ ap (λ x. due (stack_of x)) (sym same)

@@ -1,28 +1,39 @@
 -- Tables of tries.
-use Rattle.std.proofs.Common.{◌≡◌, ℕ, zero, suc, ◌+◌, ◌<◌, ◌≤◌, true, false, List, ◌∷◌, length, get_or, set, Some, None, sym, refl, ap, ◌∙◌, arith}
+use Rattle.std.proofs.Common.{◌≡◌, ℕ, zero, suc, ◌+◌, ◌<◌, ◌≤◌, true, false, ◌⊎◌, List, ◌∷◌, length, get_or, set, Some, None, inl, inr, sym, refl, ap, ◌∙◌, subst, arith}
+use Rattle.std.proofs.lemmas.Bool.{cases_lt}
 use Rattle.rules.specs.Constraints.{positive}
 use Rattle.search_theory.specs.Tries.{turn}
 use Rattle.search_theory.proofs.Stacks.{turn_on, turn_off}
 use Rattle.search.specs.declared.tries.Try.{Try}
 use Rattle.search.specs.declared.tries.Tries.{Tries}
-use Rattle.search.specs.Stacks.{no_try, literal_of, stack, Tops}
+use Rattle.search.specs.Stacks.{no_try, literal_of, stack, stack_of, LatestOff, Tops}
 use Rattle.search.proofs.Levels.{set_at}
 
 pub stack_length : (ts : List Try) (k : ℕ) → length (stack ts k) ≡ k
 stack_length ts zero = refl
 stack_length ts (suc k) = ap suc (stack_length ts k)
 
--- the latest try is at on, at off, or there is none
-module _ (ts : List Try) (i j : ℕ) (j-is : j ≡ suc i) where
-  pub latest_on : (get_or ts i no_try).on ≡ true → turn (stack ts i) ≡ turn (stack ts j)
-  latest_on h = sym (ap (λ x. turn (stack ts x)) j-is ∙ turn_on (literal_of (get_or ts i no_try)) (stack ts i) h)
+-- the latest try at off, where the tries behind it are at on
+latest_found : (ts : List Try) (i k : ℕ) → i < k → (get_or ts i no_try).on ≡ false → ((j : ℕ) → i < j → j < k → (get_or ts j no_try).on ≡ true) → turn (stack ts k) ≡ Some (positive (get_or ts i no_try).switch ∷ stack ts i)
+latest_found ts i zero h off on = absurd (omega arith)
+latest_found ts i (suc k) h off on = by (cases_lt i k) (latest_found ts i k)
+  where
+    by : (i < k) ⊎ (k ≤ i) → (i < k → (get_or ts i no_try).on ≡ false → ((j : ℕ) → i < j → j < k → (get_or ts j no_try).on ≡ true) → turn (stack ts k) ≡ Some (positive (get_or ts i no_try).switch ∷ stack ts i))
+        → turn (stack ts (suc k)) ≡ Some (positive (get_or ts i no_try).switch ∷ stack ts i)
+    by (inl l) ih = turn_on (literal_of (get_or ts k no_try)) (stack ts k) (on k l (omega arith)) ∙ ih l off (λ j g m. on j g (omega arith))
+    by (inr l) ih =
+        let same : i ≡ k = omega arith in
+        subst (λ j. turn (stack ts (suc j)) ≡ Some (positive (get_or ts i no_try).switch ∷ stack ts i)) same (turn_off (literal_of (get_or ts i no_try)) (stack ts i) off)
 
-  pub latest_off : (get_or ts i no_try).on ≡ false → turn (stack ts j) ≡ Some (positive (get_or ts i no_try).switch ∷ stack ts i)
-  latest_off h = ap (λ x. turn (stack ts x)) j-is ∙ turn_off (literal_of (get_or ts i no_try)) (stack ts i) h
+latest_none : (ts : List Try) (k : ℕ) → ((j : ℕ) → j < k → (get_or ts j no_try).on ≡ true) → turn (stack ts k) ≡ None
+latest_none ts zero on = refl
+latest_none ts (suc k) on = turn_on (literal_of (get_or ts k no_try)) (stack ts k) (on k (omega arith)) ∙ latest_none ts k (λ j h. on j (omega arith))
 
-pub latest_none : (ts : List Try) (i : ℕ) → i ≤ 0 → turn (stack ts i) ≡ None
-latest_none ts zero h = refl
-latest_none ts (suc i) h = absurd (omega arith)
+pub turns : (t : Tries) (i : ℕ) → LatestOff (Some i) t → turn (stack_of t) ≡ Some (positive (get_or t.table i no_try).switch ∷ stack t.table i)
+turns t i h = latest_found t.table i t.count h.0 h.1 h.2
+
+pub turns_none : (t : Tries) → LatestOff None t → turn (stack_of t) ≡ None
+turns_none t h = latest_none t.table t.count h
 
 -- one entry of the table is changed, and is the latest
 module _ (t : Tries) (k : ℕ) (x : Try) (h : k < length t.table) where

@@ -1,5 +1,5 @@
 -- Lemmas for the laws of rules that force: passes over rules.
-use Rattle.std.specs.Prelude.{◌≡◌, ℕ, zero, suc, ◌+◌, ◌<◌, ◌≤◌, Bool, true, false, List, [], ◌∷◌, map, length, drop, Some, None, Option, slice_index_or}
+use Rattle.std.specs.Prelude.{◌≡◌, ℕ, zero, suc, ◌+◌, ◌<◌, ◌≤◌, Bool, true, false, List, [], ◌∷◌, map, length, drop, Some, None, Option, Ok, Err, Result, slice_index_or}
 use Rattle.std.proofs.Common.{sym, ap, ◌∙◌, arith}
 use Rattle.std.proofs.lemmas.List.{at_drop_more, at_drop_all, drop-map}
 use Rattle.rules.specs.declared.literals.Literal.{Literal}
@@ -7,25 +7,22 @@ use Rattle.rules.specs.Constraints.{Constraint, Each}
 use Rattle.search_theory.specs.Parts.{Part}
 use Rattle.search_theory.specs.Forcing.{says, dead}
 use Rattle.search_theory.proofs.Rules.{says_unset, says_alone}
-use Rattle.search.specs.declared.looking.Look.{Look}
-use Rattle.search.specs.declared.looking.Look.TheVariants.{Quiet, Dead, Forces}
-use Rattle.search.specs.declared.looking.Pass.TheVariants.{Quiet as pass_quiet}
+use Rattle.search.specs.declared.looking.Dead.{Dead}
 use Rattle.search.specs.Looks.{look_of, look_at, ForcesOne, pass_at, pass_from}
 
 -- what a look tells, and what tells a look
-pub look_forces : (d : Bool) (o : Option Literal) (l : Literal) → Forces l ≡ look_of d o → o ≡ Some l
-look_forces true o l e = let z : ◌≡◌ {A = ℕ} 0 1 = cc in absurd (omega arith)
-look_forces false None l e = let z : ◌≡◌ {A = ℕ} 0 1 = cc in absurd (omega arith)
-look_forces false (Some m) l e = cc
+pub look_forces : (d : Bool) (o : Option Literal) (l : Literal) → Ok (Some l) ≡ look_of d o → o ≡ Some l
+look_forces true o l e = absurd (cc)
+look_forces false o l e = cc
 
-pub is_quiet : (p : Part) (r : Constraint) → (dead p r ≡ false) × (says p r ≡ None) → Quiet ≡ look_at p r
-is_quiet p r h = sym (ap (λ d. look_of d (says p r)) h.0 ∙ ap (look_of false) h.1)
-
-pub is_dead : (p : Part) (r : Constraint) → dead p r ≡ true → Dead ≡ look_at p r
+pub is_dead : (p : Part) (r : Constraint) → dead p r ≡ true → Err (record {}) ≡ look_at p r
 is_dead p r h = sym (ap (λ d. look_of d (says p r)) h)
 
-pub is_forced : (p : Part) (r : Constraint) (l : Literal) → dead p r ≡ false → says p r ≡ Some l → Forces l ≡ look_at p r
-is_forced p r l h k = sym (ap (λ d. look_of d (says p r)) h ∙ ap (look_of false) k)
+pub is_said : (p : Part) (r : Constraint) (o : Option Literal) → dead p r ≡ false → says p r ≡ o → Ok o ≡ look_at p r
+is_said p r o h k = sym (ap (λ d. look_of d (says p r)) h ∙ ap Ok k)
+
+pub is_quiet : (p : Part) (r : Constraint) → (dead p r ≡ false) × (says p r ≡ None) → Ok None ≡ look_at p r
+is_quiet p r h = is_said p r None h.0 h.1
 
 -- the element at an index
 pub each_at : {X Y : Type 0} (P : Y → Type 0) (f : X → Y) (xs : List X) (i : ℕ) (d : X) → i < length xs → Each P (map f xs) → P (f (slice_index_or xs i d))
@@ -47,11 +44,11 @@ module _ {R : Type 0} (f : R → Constraint) (xs : List R) (i : ℕ) where
   left_all : length xs ≤ i → drop i (map f xs) ≡ []
   left_all h = drop-map f i xs ∙ at_drop_all (map f) xs i h
 
-  pub pass_more : (p : Part) (x : R) → i < length xs → x ≡ slice_index_or xs i x → (k : Look) → k ≡ look_at p (f x)
+  pub pass_more : (p : Part) (x : R) → i < length xs → x ≡ slice_index_or xs i x → (k : Result (Option Literal) Dead) → k ≡ look_at p (f x)
       → pass_at k i (pass_from p (i + 1) (drop (i + 1) (map f xs))) ≡ pass_from p i (drop i (map f xs))
   pass_more p x h read k e = ap (λ y. pass_at y i (pass_from p (i + 1) (drop (i + 1) (map f xs)))) e ∙ sym (ap (pass_from p i) (left_more x h read))
 
-  pub pass_all : (p : Part) → length xs ≤ i → pass_quiet ≡ pass_from p i (drop i (map f xs))
+  pub pass_all : (p : Part) → length xs ≤ i → Ok None ≡ pass_from p i (drop i (map f xs))
   pass_all p h = sym (ap (pass_from p i) (left_all h))
 
 -- what a rule forces was unset, and its other switches are set

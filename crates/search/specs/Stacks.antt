@@ -1,8 +1,6 @@
 -- The table of tries, as a stack.
-use Rattle.std.specs.Prelude.{◌≡◌, ℕ, zero, suc, ◌+◌, ◌<◌, ◌≤◌, true, false, List, [], ◌∷◌, Some, None, Option, slice_index_or}
+use Rattle.std.specs.Prelude.{◌≡◌, ℕ, zero, suc, ◌+◌, ◌<◌, ◌≤◌, true, false, List, [], ◌∷◌, Option, MatchOption, slice_index_or}
 use Rattle.rules.specs.declared.literals.Literal.{Literal}
-use Rattle.rules.specs.Constraints.{positive}
-use Rattle.search_theory.specs.Tries.{turn}
 use Rattle.search.specs.declared.tries.Try.{Try}
 use Rattle.search.specs.declared.tries.Tries.{Tries}
 
@@ -25,8 +23,9 @@ stack_of t = stack t.table t.count
 
 -- where the latest try at off stands
 abbrev pub LatestOff : Option ℕ → Tries → Type 0
-LatestOff None t = turn (stack_of t) ≡ None
-LatestOff (Some i) t = (i < t.count) × (turn (stack_of t) ≡ Some (positive (slice_index_or t.table i no_try).switch ∷ stack t.table i))
+LatestOff o t =
+    MatchOption o ((k : ℕ) → k < t.count → (slice_index_or t.table k no_try).on ≡ true)
+    (λ i. (i < t.count) × ((slice_index_or t.table i no_try).on ≡ false) × ((k : ℕ) → i < k → k < t.count → (slice_index_or t.table k no_try).on ≡ true))
 
 -- the tries u are the first k of t, and l on top of them
 pub record Tops (l : Literal) (k : ℕ) (t u : Tries) : Type 0 where

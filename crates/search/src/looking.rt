@@ -6,25 +6,13 @@ ghost use Rattle.search_theory.specs.Forcing.{Over};
 ghost use Rattle.search.specs.Values.{part_of};
 ghost use Rattle.search.specs.Looks.{look_at, pass_from, ForcesOne, UnsetBy, IndexBelow};
 
-use crate::values::Value;
+use crate::values::PartSetting;
 use rules::kinds::RuleKind;
 use rules::literals::Literal;
 
-// What one rule does: nothing, it is dead, or it forces a literal to be kept.
+// A rule is dead.
 #[derive(Clone, Copy)]
-pub enum Look {
-    Quiet,
-    Dead,
-    Forces(Literal),
-}
-
-// How a literal is at a part-setting.
-#[derive(Clone, Copy)]
-pub enum Status {
-    Unset,
-    Kept,
-    Broken,
-}
+pub struct Dead;
 
 // A literal that is forced, and the index of the rule that forces it.
 #[derive(Clone, Copy)]
@@ -33,39 +21,34 @@ pub struct Forced {
     pub literal: Literal,
 }
 
-// What a pass over rules meets first.
-#[derive(Clone, Copy)]
-pub enum Pass {
-    Quiet,
-    Dead,
-    Forces(Forced),
-}
-
 // A kind of rules that can force a switch.
 pub(crate) trait Forcing: RuleKind {
     ghost constraint: { Self → Constraint };
 
-    fn look(&self, values: &[Value; 256]) -> Look
+    // The literal that the rule forces to be kept, where it forces one.
+    fn look(&self, part: &PartSetting) -> Result<Option<Literal>, Dead>
         requires { Each (Within 256) (switches (constraint self.now)) }
-        ensures { result ≡ look_at (part_of values.now) (constraint self.now) };
+        ensures { result ≡ look_at (part_of part.now) (constraint self.now) };
 
     // A rule forces at most one switch at a time, and one that was unset.
     ghost single: { (x : Self) → ForcesOne (constraint x) };
 }
 
 // Goes over the rules from an index on, and stops at the first that is dead or forces a switch.
-pub(crate) fn first_forced<R: Forcing>(rules: &[R], from: usize, values: &[Value; 256]) -> Pass
+pub(crate) fn first_forced<R: Forcing>(
+    rules: &[R],
+    from: usize,
+    part: &PartSetting,
+) -> Result<Option<Forced>, Dead>
     requires { Over 256 (map R.Forcing.constraint rules.now) }
-    ensures first { result ≡ pass_from (part_of values.now) from (drop from (map R.Forcing.constraint rules.now)) }
-    ensures unset { UnsetBy result (part_of values.now) }
+    ensures first { result ≡ pass_from (part_of part.now) from (drop from (map R.Forcing.constraint rules.now)) }
+    ensures unset { UnsetBy result (part_of part.now) }
     ensures within { IndexBelow result (length rules.now) }
 {
     for at in from..rules.len() {
-        match rules[at].look(values) {
-            Look::Quiet => {}
-            Look::Dead => return Pass::Dead,
-            Look::Forces(literal) => return Pass::Forces(Forced { at, literal }),
+        if let Some(literal) = rules[at].look(part)? {
+            return Ok(Some(Forced { at, literal }));
         }
     }
-    Pass::Quiet
+    Ok(None)
 }

@@ -27,17 +27,25 @@ impl Try {
 }
 
 impl Tries {
+    // No tries.
+    pub(crate) fn new() -> Tries
+        ensures { result.count ≡ 0 }
+    {
+        Tries {
+            table: [Try {
+                switch: 0,
+                on: false,
+            }; 256],
+            count: 0,
+        }
+    }
+
     // The index of the latest try at off.
     pub(crate) fn latest_off(&self) -> Option<usize>
         requires { self.now.count ≤ 256 }
         ensures { LatestOff result self.now }
     {
-        for i in (0..self.count).rev() {
-            if !self.table[i].on {
-                return Some(i);
-            }
-        }
-        None
+        self.table[..self.count].iter().rposition(|made| !made.on)
     }
 
     // Turns one try to on, and drops those after it.

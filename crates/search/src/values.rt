@@ -1,90 +1,81 @@
 // Part-settings as the search holds them.
-ghost use Rattle.std.specs.Prelude.{◌≡◌};
+ghost use Rattle.std.specs.Prelude.{◌≡◌, ◌≤◌, None, not, is_some, replicate, position};
 ghost use Rattle.rules.specs.Settings.{Within};
-ghost use Rattle.search.specs.Values.{view, value_of, part_of, upto, kept_to, Puts};
+ghost use Rattle.search_theory.specs.Tries.{lowest};
+ghost use Rattle.search.specs.Values.{part_of, back, Puts};
 
 use rules::literals::Literal;
 
+// The value of a switch that is set, and how many tries stood when it was set.
 #[derive(Clone, Copy)]
-pub enum Value {
-    Unset,
-    Off,
-    On,
+pub struct Assigned {
+    pub on: bool,
+    pub level: u16,
 }
 
-// The value of switch v stands at index v - 1, and beside it the number of tries that stood when v was set.
-// Where v is unset, its level has no meaning.
+const UNSET: Option<Assigned> = None;
+
+// The value of switch v stands at index v - 1. What is set next is set at the level.
 #[derive(Drop)]
 pub struct PartSetting {
-    pub values: [Value; 256],
-    pub levels: [u16; 256],
+    pub values: [Option<Assigned>; 256],
+    pub level: u16,
 }
 
-fn value_of(on: bool) -> Value
-    ensures { result ≡ value_of on }
+// The index of the first value that is unset.
+fn first_unset(values: &[Option<Assigned>]) -> Option<usize>
+    ensures { result ≡ position (λ v. not (is_some v)) values.now }
 {
-    if on { Value::On } else { Value::Off }
-}
-
-// A value that was set at a level above the limit is unset again.
-fn kept_to(limit: u16, level: u16, value: Value) -> Value
-    ensures { result ≡ kept_to limit level value }
-{
-    if level > limit { Value::Unset } else { value }
-}
-
-pub(crate) fn read(values: &[Value; 256], switch: u16) -> Value
-    requires { Within 256 switch }
-    ensures { view result ≡ part_of values.now switch }
-{
-    values[switch as usize - 1]
-}
-
-pub(crate) fn on_or_off(value: Value) -> Option<bool>
-    ensures { result ≡ view value }
-{
-    match value {
-        Value::Unset => None,
-        Value::Off => Some(false),
-        Value::On => Some(true),
-    }
-}
-
-// The value of a switch of any number, where it is set.
-pub(crate) fn value_at(values: &[Value; 256], switch: u16) -> Option<bool>
-    ensures { result ≡ part_of values.now switch }
-{
-    if switch == 0 || switch > 256 {
-        return None;
-    }
-    on_or_off(read(values, switch))
-}
-
-// Unsets what was set at a level above the limit.
-fn unset_above(values: &mut [Value; 256], levels: &[u16; 256], limit: u16)
-    ensures { part_of values.new ≡ upto (record { values = values.old; levels = levels.now }) limit }
-{
-    for index in 0..256usize {
-        values[index] = kept_to(limit, levels[index], values[index]);
-    }
+    values.iter().position(|value| value.is_none())
 }
 
 impl PartSetting {
-    // Sets the literal's switch as the literal has it.
-    pub(crate) fn put(&mut self, literal: Literal, level: u16)
-        requires { Within 256 literal.switch }
-        ensures { Puts literal level self.old self.new }
+    // Nothing set.
+    pub(crate) fn new() -> PartSetting
+        ensures values { result.values ≡ replicate 256 None }
+        ensures level { result.level ≡ 0 }
     {
-        let index = literal.switch as usize - 1;
-        self.values[index] = value_of(literal.on);
-        self.levels[index] = level;
+        PartSetting {
+            values: [UNSET; 256],
+            level: 0,
+        }
     }
 
-    // Undoes all that was set at a level above the limit.
-    pub(crate) fn back_to(&mut self, limit: u16)
-        ensures values { part_of self.new.values ≡ upto self.old limit }
-        ensures levels { self.new.levels ≡ self.old.levels }
+    // The value of a switch, where it is set.
+    pub(crate) fn get(&self, switch: u16) -> Option<bool>
+        requires { Within 256 switch }
+        ensures { result ≡ part_of self.now switch }
     {
-        unset_above(&mut self.values, &self.levels, limit);
+        self.values[switch as usize - 1].map(|assigned| assigned.on)
+    }
+
+    // The lowest of the switches that is unset. Where nothing is forced, it is free: were it the dependent of a row, the row's
+    // other switches, which are lower, would be set, and the row would force it.
+    pub(crate) fn lowest_unset(&self, switches: u16) -> Option<u16>
+        requires { switches ≤ 256 }
+        ensures { result ≡ lowest (λ v. not (is_some (part_of self.now v))) switches }
+    {
+        first_unset(&self.values[..switches as usize]).map(|index| index as u16 + 1)
+    }
+
+    // Sets the literal's switch as the literal has it.
+    pub(crate) fn put(&mut self, literal: Literal)
+        requires { Within 256 literal.switch }
+        ensures { Puts literal self.old self.new }
+    {
+        self.values[literal.switch as usize - 1] = Some(Assigned {
+            on: literal.on,
+            level: self.level,
+        });
+    }
+
+    // Goes back to a level: what was set at a higher one is unset again.
+    pub(crate) fn back_to(&mut self, level: u16)
+        ensures { self.new ≡ back level self.old }
+    {
+        for value in self.values.iter_mut() {
+            *value = value.filter(|assigned| assigned.level <= level);
+        }
+        self.level = level;
     }
 }

@@ -6,4 +6,4 @@ use Rattle.search.specs.Values.{part_of}
 use Rattle.search.proofs.rows.look_at_switches.Given as goal
 
 abbrev pub invariant-loop-switch : goal.invariant-loop-switch
-invariant-loop-switch l = (side : Side) → l.initial.odd ≡ is_odd side → Counted (part_of l.values) l.switches side l.unset l.odd (drop l.switch-index l.switches)
+invariant-loop-switch l = (side : Side) → l.initial.odd ≡ is_odd side → Counted (part_of l.part) l.switches side l.unset l.odd (drop l.switch-index l.switches)

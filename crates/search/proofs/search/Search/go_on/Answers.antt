@@ -1,22 +1,26 @@
-use Rattle.std.proofs.Common.{refl}
-use mathlib.Core.Logic.{∥∥₁_elim}
-use Rattle.search.specs.Moves.{rules_of}
-use Rattle.search.proofs.Propositions.{standing_prop}
-use Rattle.search.proofs.Reduction.{reduced_of}
-use Rattle.search.proofs.Endings.{tells}
+use Rattle.std.proofs.Common.{◌≡◌, ◌∙◌, rules}
+use Rattle.std.specs.Option.{unwrap_or}
+use Rattle.std.specs.Result.{result_err}
+use Rattle.search.specs.declared.progress.End.TheVariants.{Spent}
+use Rattle.search.specs.Searches.{course_of}
+use Rattle.search.proofs.Budgets.{went_more}
+use Rattle.search.proofs.Nexts.{nexts_end, nexts_told, told_right}
 use Rattle.search.proofs.search.Search.go_on.Goals as goal
 
-pub go_on-requires : goal.go_on-requires
-go_on-requires c =
-    ∥∥₁_elim c.args.self.now.stands (standing_prop c.args.self.now.system.switches (rules_of c.args.self.now.system) c.args.self.now.state) (λ h. h)
+pub returns-in-Err-clause-tells : goal.returns-in-Err-clause-tells
+returns-in-Err-clause-tells c =
+    told_right c.loop-tries.self c.args.self.now.system c.in-Err.end c.loop-tries.invariant.same (nexts_end c.loop-tries.self c.in-Err.end c.in-Err.ensures)
 
-pub invariant_of-self : goal.invariant_of-self
-invariant_of-self c = record { stands = ∣ c.go_on.ensures.stands ∣₁ }
-
-pub returns : goal.returns
-returns c =
+pub loop-tries-preserved : goal.loop-tries-preserved
+loop-tries-preserved c =
+    let same = c.make.ensures.same ∙ c.loop-tries.invariant.same in
     record {
-      goes = c.go_on.ensures.goes;
-      tells = tells c.args.self.now.system.switches (rules_of c.args.self.now.system) (reduced_of c.args.self.now.system) c.go_on.new.self c.go_on.ensures.stands c.go_on.result.end c.go_on.ensures.goes.end;
-      same = refl;
+      same = same;
+      goes = went_more c.args.self.now.system c.loop-tries.self c.make.new.self c.args.budget c.loop-tries.tries (course_of c.args.self.now) same c.loop-tries-test.true c.make.ensures.follows c.loop-tries.invariant.goes;
     }
+
+pub returns-clause-tells : goal.returns-clause-tells
+returns-clause-tells c =
+    let s = c.loop-tries.self in
+    let told : c.unwrap_or-end.result ≡ unwrap_or (result_err c.next-2.result) Spent = search rules in
+    told_right s c.args.self.now.system c.unwrap_or-end.result c.loop-tries.invariant.same (told ∙ nexts_told s c.next-2.result c.next-2.ensures)

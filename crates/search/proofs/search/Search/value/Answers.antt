@@ -1,16 +1,14 @@
 use Rattle.std.proofs.Common.{◌∙◌}
-use mathlib.Core.Logic.{∥∥₁_elim}
 use Rattle.search.specs.Moves.{rules_of}
-use Rattle.search.proofs.Propositions.{standing_prop}
+use Rattle.search.proofs.Standing.{standing_of}
 use Rattle.search.proofs.Reduction.{reduced_of}
 use Rattle.search.proofs.Endings.{found_value}
 use Rattle.search.proofs.search.Search.value.Goals as goal
 
 pub returns : goal.returns
 returns c =
-    let n = c.args.self.now.system.switches in
-    let rules = rules_of c.args.self.now.system in
+    let s = c.args.self.now in
     record {
-      shown = c.value_at.ensures;
-      found = λ s e w. c.value_at.ensures ∙ found_value n rules (reduced_of c.args.self.now.system) c.args.self.now.state (∥∥₁_elim c.args.self.now.stands (standing_prop n rules c.args.self.now.state) (λ h. h)) s e c.args.switch w;
+      shown = c.get.ensures;
+      found = λ vs e w. c.get.ensures ∙ found_value s.system.switches (rules_of s.system) (reduced_of s.system) s.state (standing_of s) vs e c.args.switch w;
     }

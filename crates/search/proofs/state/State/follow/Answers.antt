@@ -5,27 +5,21 @@ use Rattle.search.proofs.Reduction.{over_of}
 use Rattle.search.proofs.Standings.{reached_room, reached_within, follow_stands}
 use Rattle.search.proofs.state.State.follow.Goals as goal
 
-pub overflow_cast-level : goal.overflow_cast-level
-overflow_cast-level c =
+pub overflow_add-self : goal.overflow_add-self
+overflow_add-self c =
     let few = c.args.system.now.few in
-    let room = reached_room c.args.system.now.switches (rules_of c.args.system.now) c.args.literal c.args.self.now.tries.table c.args.at c.requires.reached in
-    search rules
-
-pub overflow_add-level : goal.overflow_add-level
-overflow_add-level c =
-    let few = c.args.system.now.few in
-    let room = reached_room c.args.system.now.switches (rules_of c.args.system.now) c.args.literal c.args.self.now.tries.table c.args.at c.requires.reached in
+    let room = reached_room c.args.system.now.switches (rules_of c.args.system.now) c.args.literal c.args.self.now.tries.table c.args.self.now.part.level c.requires.reached in
     search rules
 
 pub put-requires : goal.put-requires
 put-requires c =
     let few = c.args.system.now.few in
-    let w = reached_within c.args.system.now.switches (rules_of c.args.system.now) c.args.literal (stack c.args.self.now.tries.table c.args.at) c.requires.reached in
+    let w = reached_within c.args.system.now.switches (rules_of c.args.system.now) c.args.literal (stack c.args.self.now.tries.table c.args.self.now.part.level) c.requires.reached in
     (w.0, omega arith)
 
 pub returns : goal.returns
 returns c =
     record {
-      stands = follow_stands c.args.system.now.switches (rules_of c.args.system.now) (over_of c.args.system.now) c.args.literal c.args.at c.args.self.now c.requires c.put.new.self c.force-self.new.part c.force-self.result c.put.ensures c.force-self.ensures.moves c.force-self.ensures.ends;
+      stands = follow_stands c.args.system.now.switches (rules_of c.args.system.now) (over_of c.args.system.now) c.args.literal c.args.self.now c.requires c.put.new.self c.force-self.new.part c.force-self.result c.put.ensures c.force-self.ensures.moves c.force-self.ensures.ends;
       same = refl;
     }
