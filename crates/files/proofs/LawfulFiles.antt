@@ -51,7 +51,7 @@ module _ (f : Format) (sound : (n : ℕ) (bs : List ℕ) → SoundAt n (length b
       by later (Some (Ok r)) at = with_rule n more r.rule _ at.1 (later _ _)
       by later (Some (Err e)) at = tt
 
-  pub body_lawful : (n : ℕ) (bs : List ℕ) (m : Meaning) → n ≤ 256 → body f n bs ≡ Ok m → LawfulFile m
+  body_lawful : (n : ℕ) (bs : List ℕ) (m : Meaning) → n ≤ 256 → body f n bs ≡ Ok m → LawfulFile m
   unfolding LawfulRules
   body_lawful n bs m most h = by (records f n 1024 0 4 bs) (lawful_records n 1024 0 4 bs) h
     where

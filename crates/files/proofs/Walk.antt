@@ -10,14 +10,11 @@ use Rattle.sheets.specs.Meaning.{Meaning}
 use Rattle.sheets.specs.Tables.{over}
 use Rattle.files.specs.declared.sequence.Records.{Records}
 use Rattle.files.specs.Formats.{Format}
-use Rattle.files.specs.Reads.{left, meant, with_next}
+use Rattle.files.specs.Reads.{left, with_next}
 
 -- of a file with the meaning m, the rules `before` were read, and r is left
 pub record Underway (f : Format) (m : Result Meaning Fault) (r : Records) (before : List Constraint) : Type 0 where
   pub whole : m ≡ on_ok (λ rules. over r.n (before ++ rules)) (left f r)
-
-pub start : (f : Format) (m : Result Meaning Fault) (r : Records) → meant f (Ok r) ≡ m → Underway f m r []
-start f m r h = record { whole = sym h }
 
 joined : (n : ℕ) (before : List Constraint) (c : Constraint) (x : Result (List Constraint) Fault) → on_ok (λ rules. over n (before ++ rules)) (on_ok (λ rules. c ∷ rules) x) ≡ on_ok (λ rules. over n ((before ++ c ∷ []) ++ rules)) x
 joined n before c (Ok rules) = ap (λ rs. Ok (over n rs)) (sym (append_assoc before (c ∷ []) rules))
@@ -30,9 +27,6 @@ module _ {f : Format} {m : Result Meaning Fault} {r : Records} {before : List Co
   pub ended : (o : Option Rule) → o ≡ None → left f r ≡ with_next (Ok o) later → m ≡ Ok (over r.n before)
   ended o is h =
       read_next (Ok o) h ∙ ap (λ x. on_ok (λ rules. over r.n (before ++ rules)) (with_next (Ok x) later)) is ∙ ap (λ rules. Ok (over r.n rules)) (append-nil before)
-
-  pub refused : (e : Fault) → left f r ≡ with_next (Err e) later → m ≡ Err e
-  refused e h = read_next (Err e) h
 
 pub onward : {f : Format} {m : Result Meaning Fault} {r : Records} {before : List Constraint} → Underway f m r before → (s : Records) (o : Option Rule) (rule : Rule) → o ≡ Some rule → s.n ≡ r.n → left f r ≡ with_next (Ok o) (left f s) → Underway f m s (before ++ constraint rule ∷ [])
 onward {f} {m} {r} {before} far s o rule is same h =

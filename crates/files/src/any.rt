@@ -18,6 +18,7 @@ fn is_third_year(bytes: &[u8]) -> bool
 }
 
 // The fault of the file, if it has one: third-year where its second byte is 33, and first-year otherwise.
+// The choice stands here and in `read_any`: what follows it is generic over the generation, and no closure is.
 pub fn check_any(bytes: &[u8]) -> Result<(), Fault>
     ensures { result ≡ check_of (any_file bytes.now) }
 {

@@ -17,7 +17,7 @@ pub fn check_file<G: Generation>(bytes: &[u8]) -> Result<(), Fault>
     ensures lawful { (m : Meaning) → file G.Generation.format bytes.now ≡ Ok m → LawfulFile m }
 {
     let mut records = Records::open::<G>(bytes)?;
-    'records: while let Some(_rule) = records.next::<G>()? {}
+    'records: while let Some(_rule) = records.next_rule::<G>()? {}
     Ok(())
 }
 
@@ -28,7 +28,7 @@ fn read_faultless<G: Generation>(heap: Global, bytes: &[u8]) -> Result<Table, Al
 {
     let mut records = Records::open::<G>(bytes).unwrap();
     let mut rules = Vec::new(heap);
-    'records: while let Some(rule) = records.next::<G>().unwrap() {
+    'records: while let Some(rule) = records.next_rule::<G>().unwrap() {
         rules.push(rule)?;
     }
     Ok(Table {

@@ -73,8 +73,8 @@ impl<'a> Records<'a> {
         Ok(())
     }
 
-    // The rule of the next record; absent at the end record.
-    pub(crate) fn next<G: Generation>(&mut self) -> Result<Option<Rule>, Fault>
+    // The rule of the next record; absent at the end record. A fault ends the reading, so this is no iterator.
+    pub(crate) fn next_rule<G: Generation>(&mut self) -> Result<Option<Rule>, Fault>
         ensures whole { left G.Generation.format self.old ≡ with_next result (left G.Generation.format self.new) }
         ensures switches { self.new.n ≡ self.old.n }
         ensures counted { IfOk result (λ found. IfSome found (λ _. self.new.rules ≡ self.old.rules + 1)) }

@@ -10,7 +10,7 @@ use Rattle.files.proofs.reading.read_faultless.Goals as goal
 
 pub invariant_of-result : goal.invariant_of-result
 invariant_of-result g c =
-    let later = left g.G.Generation.format c.next.new.self in
-    let whole = ended c.records.invariant later c.unwrap.result c.in_default.is (c.next.ensures.whole ∙ ap (λ r. with_next r later) c.unwrap.ensures) in
+    let later = left g.G.Generation.format c.next_rule.new.self in
+    let whole = ended c.records.invariant later c.unwrap.result c.in_default.is (c.next_rule.ensures.whole ∙ ap (λ r. with_next r later) c.unwrap.ensures) in
     let keeps = file_lawful _ g.met.G.Generation.sound c.args.bytes.now _ whole in
-    record { narrow = c.next.new.self.narrow; short = omega (arith, keeps.few, length-map c.records.rules.items constraint, c.records.rules.ok.0); sound = ap (λ n. every (lawful n) (map constraint c.records.rules.items)) c.next.ensures.switches ∙ keeps.sheet.sound }
+    record { narrow = c.next_rule.new.self.narrow; short = omega (arith, keeps.few, length-map c.records.rules.items constraint, c.records.rules.ok.0); sound = ap (λ n. every (lawful n) (map constraint c.records.rules.items)) c.next_rule.ensures.switches ∙ keeps.sheet.sound }
