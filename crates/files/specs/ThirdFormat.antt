@@ -1,5 +1,5 @@
 -- The third-year format. A clause is the mark C L, a width byte and its literals; a parity rule is the mark P A, a width byte, a side byte and its switches.
-use Rattle.std.specs.Prelude.{◌≡◌, ℕ, ◌+◌, ◌*◌, ◌≤◌, true, cond, List, length, drop, Some, None, Ok, Err, Option, Result, nat_le, slice_index}
+use Rattle.std.specs.Prelude.{ℕ, ◌+◌, ◌*◌, cond, List, length, drop, Some, None, Err, Option, Result, nat_le, slice_index}
 use Rattle.rules.specs.declared.faults.Cause.TheVariants.{Form, Width, Entry}
 use Rattle.rules.specs.declared.kinds.Side.{Side}
 use Rattle.rules.specs.declared.kinds.Side.TheVariants.{Even}
@@ -14,11 +14,6 @@ use Rattle.files.specs.Formats.{RuleRead, Format, flaw, clause_marked, parity_ma
 -- the width fits the kind, and then the bytes that it asks for are present
 abbrev pub sized : Kind → ℕ → ℕ → List ℕ → Result RuleRead Flaw → Result RuleRead Flaw
 sized kind w asked rest later = demand (width_fits kind w) (flaw Width 2) (demand (nat_le asked (length rest)) (flaw Form 0) later)
-
--- what the check of the size gives: the width fits and the bytes are present, or the flaw
-abbrev pub SizeChecked : Kind → ℕ → ℕ → List ℕ → Result (Unit {0}) Flaw → Type 0
-SizeChecked kind w asked rest (Ok passed) = (width_fits kind w ≡ true) × (asked ≤ length rest)
-SizeChecked kind w asked rest (Err e) = (later : Result RuleRead Flaw) → sized kind w asked rest later ≡ Err e
 
 -- the w entries that es begins with, as a rule of the kind, in a record whose entries begin at its byte `first`
 abbrev pub listed : Kind → ℕ → ℕ → ℕ → List ℕ → Result RuleRead Flaw

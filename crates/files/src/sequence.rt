@@ -89,9 +89,8 @@ impl<'a> Records<'a> {
         let (rules, place) = (self.rules, self.place);
         let in_file = |flaw: Flaw| Layer::File.fault(flaw.cause, rules, place + flaw.offset);
         let record = found.map_err(in_file)?;
-        let size = record.size;
-        self.rest = &self.rest[size..];
-        self.place += size;
+        self.rest = &self.rest[record.size..];
+        self.place += record.size;
         self.rules += 1;
         Ok(Some(record.rule))
     }

@@ -2,7 +2,8 @@
 ghost use Rattle.std.specs.Prelude.{◌≡◌, ◌*◌, ◌≤◌, length, refl};
 ghost use Rattle.rules.specs.First.{on_ok};
 ghost use Rattle.files.specs.Formats.{read_as};
-ghost use Rattle.files.specs.ThirdFormat.{third_year, SizeChecked, listed, third_clause, third_parity};
+ghost use Rattle.files.specs.ThirdFormat.{third_year, listed, third_clause, third_parity};
+ghost use Rattle.files.specs.Reads.{SizeChecked};
 ghost use Rattle.files.specs.ThirdRules.{third_sound};
 
 use crate::numbers::decode;
