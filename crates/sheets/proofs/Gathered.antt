@@ -1,26 +1,18 @@
 -- A rule gathered from a sheet entry by entry.
-use Rattle.std.proofs.Common.{◌≡◌, ℕ, ◌+◌, ◌<◌, List, [], ◌∷◌, ◌++◌, map, take, Some, None, Option, sym, ap, ◌∙◌, arith}
-use Rattle.std.specs.List.{slice_get}
-use Rattle.std.specs.Option.{option_map, option_to_list}
-use Rattle.std.proofs.lemmas.Option.{slice_get_within, slice_get-map}
+use Rattle.std.proofs.Common.{◌≡◌, ℕ, ◌<◌, List, [], ◌∷◌, map, Some, None, Option, sym, refl, ap, ◌∙◌, arith}
+use Rattle.std.specs.Option.{option_map}
+use Rattle.std.proofs.lemmas.Option.{slice_get_within}
 use Rattle.rules.specs.declared.literals.Literal.{Literal}
 use Rattle.rules.specs.declared.kinds.Side.{Side}
 use Rattle.rules.specs.declared.kinds.Kind.TheVariants.{Clause, Parity}
-use Rattle.rules.specs.Constraints.{Constraint, clause, parity, kind, switch_of}
+use Rattle.rules.specs.Constraints.{Constraint, clause, parity, kind, switch_of, positive}
 use Rattle.sheets.specs.Meaning.{Meaning, LawfulSheet, entries_in, told_kind, told_entry}
-use Rattle.sheets.specs.Telling.{take_nth, take_past, clause_few, entries_few, switches_back}
+use Rattle.sheets.specs.Telling.{clause_few, entries_few}
 
--- one more element
-pub gathered_more : {X : Type 0} (xs new ys : List X) (j : ℕ) (x : X) → xs ≡ take j ys → new ≡ xs ++ x ∷ [] → Some x ≡ slice_get ys j → new ≡ take (j + 1) ys
-gathered_more xs new ys j x same more is =
-    more ∙ ap (λ l. l ++ x ∷ []) same ∙ sym (take_nth ys j ∙ ap (λ o. take j ys ++ option_to_list o) (sym is))
-
--- the switches of entries
-pub switch_there : (es : List Literal) (j : ℕ) (l : Literal) → Some l ≡ slice_get es j → Some l.switch ≡ slice_get (map switch_of es) j
-switch_there es j l is = ap (option_map switch_of) is ∙ sym (slice_get-map switch_of es j)
-
-pub switches_past : (es : List Literal) (j : ℕ) → None ≡ slice_get es j → take j (map switch_of es) ≡ map switch_of es
-switches_past es j is = take_past (map switch_of es) j (ap (option_map switch_of) is ∙ sym (slice_get-map switch_of es j))
+-- the switches of a parity rule, from the literals by which they are told
+switches_back : (vs : List ℕ) → map switch_of (map positive vs) ≡ vs
+switches_back [] = refl
+switches_back (v ∷ vs) = ap (λ l. v ∷ l) (switches_back vs)
 
 -- a rule is its kind with its entries
 pub clause_told : (o : Option Constraint) (ls : List Literal) → option_map kind o ≡ Some Clause → ls ≡ entries_in o → Some (clause ls) ≡ o

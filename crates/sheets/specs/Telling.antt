@@ -1,9 +1,9 @@
 -- Lemmas for the laws of sheets: what a lawful sheet tells of its entries, and that a table is one.
-use Rattle.std.specs.Prelude.{◌≡◌, ℕ, zero, suc, ◌+◌, ◌<◌, ◌≤◌, Bool, true, List, [], ◌∷◌, ◌++◌, map, length, take, Some, None, Option, slice_set, refl}
-use Rattle.std.proofs.Common.{sym, ap, ◌∙◌, add-one, arith}
+use Rattle.std.specs.Prelude.{◌≡◌, ℕ, zero, suc, ◌≤◌, Bool, true, List, [], ◌∷◌, map, length, Some, None, Option, refl}
+use Rattle.std.proofs.Common.{sym, ap, ◌∙◌, arith}
 use Rattle.std.specs.List.{slice_get}
-use Rattle.std.specs.Option.{option_map, option_to_list}
-use Rattle.std.proofs.lemmas.List.{take_more_set, length-map}
+use Rattle.std.specs.Option.{option_map}
+use Rattle.std.proofs.lemmas.List.{length-map}
 use Rattle.std.proofs.lemmas.Bool.{and_parts}
 use Rattle.rules.specs.declared.kinds.Kind.{Kind}
 use Rattle.rules.specs.declared.kinds.Kind.TheVariants.{Clause, Parity}
@@ -14,26 +14,6 @@ use Rattle.rules.specs.declared.rule.Rule.{Rule}
 use Rattle.rules.specs.Views.{constraint}
 use Rattle.rules.proofs.Lawfuls.{lawful_by_place}
 use Rattle.sheets.specs.Meaning.{Meaning, LawfulSheet, entries_in, told_kind}
-
-pub take_nth : {X : Type 0} (xs : List X) (j : ℕ) → take (j + 1) xs ≡ take j xs ++ option_to_list (slice_get xs j)
-take_nth xs j = rw add-one (by xs j)
-  where
-    by : {X : Type 0} (xs : List X) (j : ℕ) → take (suc j) xs ≡ take j xs ++ option_to_list (slice_get xs j)
-    by [] zero = refl
-    by [] (suc j) = refl
-    by (x ∷ xs) zero = refl
-    by (x ∷ xs) (suc j) = ap (λ ys. x ∷ ys) (by xs j)
-
--- one more element, written to its place
-pub copied_more : {X : Type 0} (xs ys : List X) (j : ℕ) (x : X) → j < length xs → take j xs ≡ take j ys → Some x ≡ slice_get ys j → take (j + 1) (slice_set xs j x) ≡ take (j + 1) ys
-copied_more xs ys j x lt same is =
-    take_more_set xs j x lt ∙ ap (λ l. l ++ x ∷ []) same ∙ sym (take_nth ys j ∙ ap (λ o. take j ys ++ option_to_list o) (sym is))
-
-pub take_past : {X : Type 0} (ys : List X) (j : ℕ) → None ≡ slice_get ys j → take j ys ≡ ys
-take_past [] zero is = refl
-take_past [] (suc j) is = refl
-take_past (y ∷ ys) zero is = let z : ◌≡◌ {A = ℕ} 0 1 = cc in absurd (omega arith)
-take_past (y ∷ ys) (suc j) is = ap (λ l. y ∷ l) (take_past ys j is)
 
 pub every_nth : {X : Type 0} (t : X → Bool) (xs : List X) (i : ℕ) (x : X) → every t xs ≡ true → slice_get xs i ≡ Some x → t x ≡ true
 every_nth t [] i x h e = let z : ◌≡◌ {A = ℕ} 0 1 = cc in absurd (omega arith)
@@ -68,11 +48,6 @@ clause_few m law i h = by (slice_get m.rules i) refl h
         let here = lawful_by_place _ (clause ls) (every_nth (lawful m.switches) m.rules i (clause ls) law.sound e) in
         omega (arith, length_entries (clause ls), here.few)
     by (Some (parity vs side)) e h = let z : ◌≡◌ {A = ℕ} 0 1 = cc in absurd (omega arith)
-
--- the switches of a parity rule, from the literals by which they are told
-pub switches_back : (vs : List ℕ) → map switch_of (map positive vs) ≡ vs
-switches_back [] = refl
-switches_back (v ∷ vs) = ap (λ l. v ∷ l) (switches_back vs)
 
 -- what a table holds is a lawful sheet
 pub table_lawful : (n k : ℕ) (rs : List Rule) → n ≤ 256 → k ≤ 1024 → k ≡ length rs → every (lawful n) (map constraint rs) ≡ true → LawfulSheet (record { switches = n; rules = map constraint rs })

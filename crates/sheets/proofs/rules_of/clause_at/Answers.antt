@@ -1,8 +1,9 @@
-use Rattle.std.proofs.Common.{take, sym, ap, ◌∙◌}
+use Rattle.std.proofs.Common.{◌++◌, drop, sym, ap, ◌∙◌}
 use Rattle.std.specs.List.{slice_get}
+use Rattle.rules.specs.Views.{literals_of}
 use Rattle.sheets.specs.Meaning.{entries_in}
-use Rattle.sheets.specs.Telling.{take_past}
-use Rattle.sheets.proofs.Gathered.{gathered_more, clause_told, clause_entry}
+use Rattle.sheets.proofs.Gathered.{clause_told, clause_entry}
+use Rattle.sheets.proofs.Lefts.{left_some, left_none, taken_more, taken_all}
 use Rattle.sheets.proofs.rules_of.clause_at.Goals as goal
 
 pub push-requires : goal.push-requires
@@ -12,10 +13,11 @@ push-requires g c =
 pub loop-literal-preserved : goal.loop-literal-preserved
 loop-literal-preserved g c =
     let es = entries_in (slice_get (g.S.Sheet.meaning c.args.sheet.now).rules c.args.i) in
-    gathered_more _ _ es c.loop-literal.clause.width c.in-Some.literal c.loop-literal.invariant c.push.ensures.more c.in-Some.ensures
-    ∙ sym (ap (λ w. take w es) c.push.ensures.width)
+    let step = left_some es c.loop-literal.clause.width c.in-Some.literal c.in-Some.ensures in
+    ap (λ w. literals_of c.push.new.self ++ drop w es) c.push.ensures.width ∙ taken_more _ _ _ _ _ es c.loop-literal.invariant c.push.ensures.more step
 
 pub returns : goal.returns
 returns g c =
     let o = slice_get (g.S.Sheet.meaning c.args.sheet.now).rules c.args.i in
-    clause_told o _ c.requires (c.loop-literal.invariant ∙ take_past (entries_in o) c.loop-literal.clause.width (sym c.in_default.is ∙ c.entry.ensures))
+    let none = left_none (entries_in o) c.loop-literal.clause.width (sym c.in_default.is ∙ c.entry.ensures) in
+    clause_told o _ c.requires (taken_all _ _ _ c.loop-literal.invariant none)
