@@ -1,4 +1,3 @@
-pub mod Copies
 pub mod Restarts
 pub mod Founds
 pub mod Settles

@@ -1,5 +1,5 @@
 // A search begun anew in the memory of the one before.
-ghost use Rattle.std.specs.Prelude.{◌≡◌, ◌+◌, ◌<◌, ◌≤◌, [], ◌∷◌, ◌++◌, map, length, IfOk, Some, vec_len, vec_capacity};
+ghost use Rattle.std.specs.Prelude.{◌≡◌, ◌≤◌, map, length, IfOk, Some, vec_capacity};
 ghost use Rattle.rules.specs.Constraints.{clause};
 ghost use Rattle.rules.specs.Views.{constraint, clause_constraint, row_constraint};
 ghost use Rattle.parity_theory.specs.Recovering.{clauses as clauses_of};
@@ -41,19 +41,6 @@ fn empty_search(heap: Global) -> Search {
     })
 }
 
-// Adds the rule where it is a clause.
-fn add_clause(clauses: &mut Vec<Clause>, rule: &Rule)
-    requires { vec_len clauses.old < vec_capacity clauses.old }
-    ensures clauses { map clause_constraint clauses.new.items ≡ map clause_constraint clauses.old.items ++ map clause (clauses_of (constraint rule.now ∷ [])) }
-    ensures few { vec_len clauses.new ≤ vec_len clauses.old + 1 }
-    ensures room { vec_capacity clauses.new ≡ vec_capacity clauses.old }
-{
-    match rule {
-        Rule::Clause(clause) => clauses.push_reserved(*clause),
-        Rule::Parity(_parity) => {}
-    }
-}
-
 // Leaves the clauses among the rules, in their order.
 fn fill_clauses(clauses: &mut Vec<Clause>, rules: &[Rule])
     requires { length rules.now ≤ vec_capacity clauses.old }
@@ -62,7 +49,9 @@ fn fill_clauses(clauses: &mut Vec<Clause>, rules: &[Rule])
 {
     clauses.clear();
     for rule in rules {
-        add_clause(clauses, rule);
+        if let Rule::Clause(clause) = rule {
+            clauses.push_reserved(*clause);
+        }
     }
 }
 

@@ -1,12 +1,10 @@
-use Rattle.std.proofs.Common.{map, Some, vec_capacity, sym, refl, ap, ◌∙◌, subst, arith}
+use Rattle.std.proofs.Common.{map, Some, vec_capacity, sym, ap, ◌∙◌, arith}
 use Rattle.std.proofs.lemmas.List.{length-map}
 use Rattle.rules.specs.Constraints.{clause}
 use Rattle.rules.specs.Views.{constraint, row_constraint}
 use Rattle.parity_theory.specs.Recovering.{clauses as clauses_of}
 use Rattle.parity.specs.Reductions.{standing_rules}
 use Rattle.parity.proofs.Room.{rows_few}
-use Rattle.search_theory.specs.Courses.{begin}
-use Rattle.session.specs.Phases.{Over}
 use Rattle.session.proofs.Restarts.{system_made, system_reduced}
 use Rattle.session.proofs.restarting.restart.Goals as goal
 
@@ -25,18 +23,3 @@ invariant_of-system c =
     let rows_same = c.requires.reduced ∙ ap (λ l. Some (map row_constraint l)) (sym c.fill_rows.ensures.rows) in
     let made = system_made s.switches (standing_rules s) _ _ rows_same cs in
     record { few = s.narrow; reduced = ∣ system_reduced s.switches (standing_rules s) _ s.sound made ∣₁ }
-
-pub returns : goal.returns
-returns c =
-    let s = c.args.rules.now in
-    let cs = c.fill_clauses.ensures.clauses ∙ ap (λ l. map clause (clauses_of (map constraint l))) c.as_slice.ensures.value in
-    let rows_same = c.requires.reduced ∙ ap (λ l. Some (map row_constraint l)) (sym c.fill_rows.ensures.rows) in
-    let made = system_made s.switches (standing_rules s) _ _ rows_same cs in
-    let same = c.into_system-system.ensures ∙ ap (λ x. x.system) c.replace-old.ensures.value in
-    let held = c.new.ensures.same in
-    record {
-      over = subst (Over s.switches (standing_rules s)) (sym held) (record { size = refl; same = made });
-      course = c.new.ensures.course ∙ ap (begin s.switches) (sym made);
-      clauses = omega (arith, c.requires.clauses, ap (λ x. vec_capacity x.clauses) same, c.fill_clauses.ensures.room, ap (λ x. vec_capacity x.clauses) held);
-      rows = omega (arith, c.requires.rows, ap (λ x. vec_capacity x.rows) same, c.fill_rows.ensures.room, ap (λ x. vec_capacity x.rows) held);
-    }

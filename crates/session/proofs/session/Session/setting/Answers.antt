@@ -11,5 +11,5 @@ returns-clause-found c =
     λ vs e size.
     values_made vs c.from_fn.result c.from.result (omega (arith, found_long s vs e, c.from.ensures)) (omega (arith, s.system.few, c.from.ensures, made.long))
     (λ i lt.
-        made_at _ P _ (λ j y q call. (search rules, search rules)) c.from_fn.result false 256 i made (omega (arith, s.system.few, c.from.ensures))
-        ∙ ap (λ o. unwrap_or o false) (found_shown s vs (i + 1) e (omega arith, omega (arith, c.from.ensures))))
+    made_at _ P _ (λ j y q call. (search rules, search rules)) c.from_fn.result false 256 i made (omega (arith, s.system.few, c.from.ensures))
+    ∙ ap (λ o. unwrap_or o false) (found_shown s vs (i + 1) e (omega arith, omega (arith, c.from.ensures))))
