@@ -33,8 +33,8 @@ few_switches f bs h = by (leb 4 (length bs) && marked 70 f.head_byte bs) (inside
   where
     by : (a b : Bool) → inside 256 (switches_in bs) ≡ b → unless a (file_fault Head 0 0) (unless b (file_fault SwitchCount 0 2) None) ≡ None → switches_in bs ≤ 256
     by true true is h = leb-true _ _ (and_parts _ _ is).1
-    by true false is h = let z : ◌≡◌ {A = ℕ} 0 1 = cc in absurd (omega arith)
-    by false b is h = let z : ◌≡◌ {A = ℕ} 0 1 = cc in absurd (omega arith)
+    by true false is h = absurd (cc)
+    by false b is h = absurd (cc)
 
 module _ (f : Format) (sound : (n : ℕ) (bs : List ℕ) → SoundAt n (length bs) (f.rule_at n bs)) where
   lawful_records : (n more k p : ℕ) (rest : List ℕ) → LawfulRules n more (records f n more k p rest)
@@ -56,7 +56,7 @@ module _ (f : Format) (sound : (n : ℕ) (bs : List ℕ) → SoundAt n (length b
   body_lawful n bs m most h = by (records f n 1024 0 4 bs) (lawful_records n 1024 0 4 bs) h
     where
       by : (x : Result (List Constraint) Fault) → LawfulRules n 1024 x → on_ok (over n) x ≡ Ok m → LawfulFile m
-      by (Err e) all h = let z : ◌≡◌ {A = ℕ} 0 1 = cc in absurd (omega arith)
+      by (Err e) all h = absurd (cc)
       by (Ok rules) all h =
           let meant : over n rules ≡ m = cc in
           let few = all.1 in
@@ -66,5 +66,5 @@ module _ (f : Format) (sound : (n : ℕ) (bs : List ℕ) → SoundAt n (length b
   file_lawful bs m h = by (head_fault f bs) refl h
     where
       by : (o : Option Fault) → head_fault f bs ≡ o → after_head o (body f (switches_in bs) (drop 4 bs)) ≡ Ok m → LawfulFile m
-      by (Some e) is h = let z : ◌≡◌ {A = ℕ} 0 1 = cc in absurd (omega arith)
+      by (Some e) is h = absurd (cc)
       by None is h = body_lawful (switches_in bs) (drop 4 bs) m (few_switches f bs is) h

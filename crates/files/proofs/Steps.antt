@@ -15,12 +15,12 @@ use Rattle.files.specs.Reads.{left}
 
 -- a fault is the verdict whatever the value is
 pub other_value : {X Y F : Type 0} (o : Option F) (x : X) (y : Y) (e : F) → Err e ≡ verdict o x → verdict o y ≡ Err e
-other_value None x y e h = let z : ◌≡◌ {A = ℕ} 0 1 = cc in absurd (omega arith)
+other_value None x y e h = cc
 other_value (Some e') x y e h = cc
 
 no_fault : {X Y F : Type 0} (o : Option F) (x : X) (y : Y) → Ok x ≡ verdict o x → verdict o y ≡ Ok y
 no_fault None x y h = refl
-no_fault (Some e) x y h = let z : ◌≡◌ {A = ℕ} 0 1 = cc in absurd (omega arith)
+no_fault (Some e) x y h = cc
 
 module _ (f : Format) (n k p : ℕ) (rest : List ℕ) where
   no_rule : (more : ℕ) → f.rule_at n rest ≡ None → records f n more k p rest ≡ verdict (end_fault k p rest) []
@@ -52,13 +52,13 @@ module _ (f : Format) (r : Records) where
 
   -- what its reader found at the front, where told is the same with a flaw told as a fault of the file
   pub at_flaw : (found : Result RuleRecord Flaw) (told : Result RuleRecord Fault) (e : Fault) → Some (on_ok read_as found) ≡ f.rule_at r.n r.rest.now → MatchResult found (λ x. told ≡ Ok x) (λ x. IsErrAnd told (λ d. d ≡ file_fault x.cause r.rules (r.place + x.offset))) → told ≡ Err e → r.rules < 1024 → left f r ≡ Err e
-  at_flaw (Ok x) told e at given is few = let z : ◌≡◌ {A = ℕ} 0 1 = cc in absurd (omega arith)
+  at_flaw (Ok x) told e at given is few = cc
   at_flaw (Err x) told e at given is few =
       let same : e ≡ file_fault x.cause r.rules (r.place + x.offset) = rw is at given in
       one_more f r.n r.rules r.place r.rest.now (Err x) (sym at) few ∙ ap Err (sym same)
 
   pub at_rule : (found : Result RuleRecord Flaw) (told : Result RuleRecord Fault) (x : RuleRecord) (after : List ℕ) → Some (on_ok read_as found) ≡ f.rule_at r.n r.rest.now → MatchResult found (λ y. told ≡ Ok y) (λ y. IsErrAnd told (λ d. d ≡ file_fault y.cause r.rules (r.place + y.offset))) → told ≡ Ok x → after ≡ drop x.size r.rest.now → r.rules < 1024 → left f r ≡ on_ok (λ rules. constraint x.rule ∷ rules) (records f r.n (1024 - (r.rules + 1)) (r.rules + 1) (r.place + x.size) after)
-  at_rule (Err y) told x after at given is cut few = let p = err_from_is_err_and told given in let z : ◌≡◌ {A = ℕ} 0 1 = cc in absurd (omega arith)
+  at_rule (Err y) told x after at given is cut few = let p = err_from_is_err_and told given in cc
   at_rule (Ok y) told x after at given is cut few =
       let same : y ≡ x = cc in
       one_more f r.n r.rules r.place r.rest.now (Ok (read_as y)) (sym at) few

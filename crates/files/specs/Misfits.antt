@@ -10,20 +10,17 @@ use Rattle.rules.specs.Faults.{misfit}
 use Rattle.rules.specs.Lawful.{width_fits}
 use Rattle.rules.specs.Entries.{literal, named_switch, literal_fits, named, entry_misfit, entries_misfit, rule_of, built}
 
-none_some : {X P : Type 0} (x : X) → None ≡ Some x → P
-none_some x h = let z : ◌≡◌ {A = ℕ} 0 1 = cc in absurd (omega arith)
-
 entry_index : (k : Kind) (n : ℕ) (es : List ℤ) (i : ℕ) (m : Misfit) → entry_misfit k n es i ≡ Some m → i ≡ m.index
 entry_index k n es i m h = by (literal_fits k n (literal (slice_index_or es i (pos 0)))) (not (named es (named_switch (slice_index_or es i (pos 0))) i)) h
   where
     by : (a b : Bool) → unless a (misfit Entry i) (unless b (misfit Repeat i) None) ≡ Some m → i ≡ m.index
-    by true true h = none_some m h
+    by true true h = absurd (cc)
     by true false h = let e : misfit Repeat i ≡ m = cc in ap (λ (x : Misfit). x.index) e
     by false b h = let e : misfit Entry i ≡ m = cc in ap (λ (x : Misfit). x.index) e
 
 first_index : (k : Kind) (n : ℕ) (es : List ℤ) (m : Misfit) (j : ℕ) → first_of (entry_misfit k n es) j ≡ Some m → m.index < j
 unfolding first_of
-first_index k n es m zero h = none_some m h
+first_index k n es m zero h = absurd (cc)
 first_index k n es m (suc j) h = by (first_index k n es m j) (first_of (entry_misfit k n es) j) refl h
   where
     by : (first_of (entry_misfit k n es) j ≡ Some m → m.index < j) → (o : Option Misfit) → first_of (entry_misfit k n es) j ≡ o → option_or o (entry_misfit k n es j) ≡ Some m → m.index < suc j
@@ -35,7 +32,7 @@ misfit_within k n es m h = by (width_fits k (length es)) (entries_misfit k n es)
   where
     by : (fits : Bool) (o : Option Misfit) → entries_misfit k n es ≡ o → Err m ≡ verdict (unless fits (misfit Width 0) o) (rule_of k es) → m.index ≤ length es
     by false o e h = let same : misfit Width 0 ≡ m = cc in let at = ap (λ (x : Misfit). x.index) same in omega arith
-    by true None e h = let z : ◌≡◌ {A = ℕ} 0 1 = cc in absurd (omega arith)
+    by true None e h = absurd (cc)
     by true (Some x) e h =
         let same : x ≡ m = cc in
         let at = first_index k n es x (length es) e in

@@ -14,7 +14,7 @@ use Rattle.files.specs.FirstFormat.{is_empty, used_slots, filled_from, gap, unle
 use Rattle.files.specs.Sounds.{sound_demand, sound_framed}
 
 filled_within : (i : ℕ) (es : List ℤ) (j : ℕ) → filled_from i es ≡ Some j → j < i + length es
-filled_within i [] j h = let z : ◌≡◌ {A = ℕ} 0 1 = cc in absurd (omega arith)
+filled_within i [] j h = absurd (cc)
 filled_within i (e ∷ es) j h = by (filled_within (i + 1) es j) (is_empty e) h
   where
     by : (filled_from (i + 1) es ≡ Some j → j < i + 1 + length es) → (b : Bool) → cond b (filled_from (i + 1) es) (Some i) ≡ Some j → j < i + suc (length es)

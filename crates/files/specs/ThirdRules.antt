@@ -1,36 +1,18 @@
 -- Lemmas for the law of the third-year format: its rule records.
-use Rattle.std.specs.Prelude.{◌≡◌, ℕ, ◌+◌, ◌*◌, ◌≤◌, Bool, true, false, cond, List, length, drop, Some, None, Option, Result, slice_index}
-use Rattle.std.proofs.Common.{ap, ◌∙◌, arith, length-drop}
-use Rattle.std.proofs.lemmas.Bool.{cond-true, cond-false, leb-true, le-leb}
+use Rattle.std.specs.Prelude.{ℕ, ◌+◌, ◌*◌, ◌≤◌, Bool, true, false, cond, List, length, drop, Some, None, Option, Result, slice_index}
+use Rattle.std.proofs.Common.{arith, length-drop}
+use Rattle.std.proofs.lemmas.Bool.{leb-true}
 use Rattle.std.proofs.lemmas.List.FromFn.{length-map-range_with_len}
-use Rattle.std.proofs.lemmas.Bool.Decides.{nat_tests}
 use Rattle.rules.specs.declared.kinds.Kind.{Kind}
 use Rattle.rules.specs.declared.kinds.Kind.TheVariants.{Clause, Parity}
 use Rattle.rules.specs.declared.kinds.Side.{Side}
 use Rattle.rules.specs.declared.kinds.Side.TheVariants.{Even}
-use Rattle.rules.specs.Lawful.{width_fits}
-use Rattle.rules.specs.Entries.{side_numbered}
 use Rattle.rules.specs.declared.faults.Cause.TheVariants.{Form, Width}
 use Rattle.files.specs.declared.records.Flaw.{Flaw}
 use Rattle.files.specs.Numbers.{entry, entries_in}
 use Rattle.files.specs.Formats.{RuleRead, Sound, SoundAt, flaw, clause_marked, parity_marked}
 use Rattle.files.specs.ThirdFormat.{sized, listed, with_side, third_clause, third_parity, with_width, third_rule}
 use Rattle.files.specs.Sounds.{sound_demand, sound_framed}
-
-pub parity_listed : (n w : ℕ) (rest : List ℕ) (side : Side) → width_fits (Parity Even) w ≡ true → 1 + 2 * w ≤ length rest → side_numbered (slice_index rest 0) ≡ Some side → third_parity n w rest ≡ listed (Parity side) n 4 w (drop 1 rest)
-parity_listed n w rest side fits long is = cond-true _ _ _ fits ∙ cond-true _ _ _ (le-leb _ _ long) ∙ ap (λ o. with_side o n w (drop 1 rest)) is
-
-module _ (n : ℕ) (bs : List ℕ) (long : 3 ≤ length bs) where
-  pub clause_here : slice_index bs 0 ≡ 67 → slice_index bs 1 ≡ 76 → third_rule n bs ≡ Some (third_clause n (slice_index bs 2) (drop 3 bs))
-  clause_here m0 m1 =
-      let mark : clause_marked bs ≡ true = grind (arith, nat_tests) in
-      cond-true _ _ _ mark ∙ ap Some (cond-true _ _ _ (le-leb _ _ long))
-
-  pub parity_here : slice_index bs 0 ≡ 80 → slice_index bs 1 ≡ 65 → third_rule n bs ≡ Some (third_parity n (slice_index bs 2) (drop 3 bs))
-  parity_here m0 m1 =
-      let other : clause_marked bs ≡ false = grind (arith, nat_tests) in
-      let mark : parity_marked bs ≡ true = grind (arith, nat_tests) in
-      cond-false _ _ _ other ∙ cond-true _ _ _ mark ∙ ap Some (cond-true _ _ _ (le-leb _ _ long))
 
 sound_listed : (n l : ℕ) (k : Kind) (first w : ℕ) (es : List ℕ) → first + 2 * w ≤ l → Sound n l (listed k n first w es)
 sound_listed n l k first w es h =
