@@ -1,6 +1,7 @@
 -- Equations, parity rules and rows, member by member.
 use Rattle.std.proofs.Common.{◌≡◌, ℕ, suc, ◌+◌, ◌-◌, ◌<◌, ◌≤◌, Bool, true, false, cond, not, ◌&&◌, eqb, ◌⊎◌, List, [], ◌∷◌, ◌++◌, length, get_or, take, set, fold, sym, refl, ap, ◌∙◌, inl, inr, add-one, arith}
 use mathlib.Core.Bool.{beq}
+use Rattle.std.proofs.Math.Bool.{and_assoc, and-true, and-false}
 use Rattle.std.proofs.lemmas.List.FromFn.{get_or-map-range_with_len}
 use Rattle.std.proofs.lemmas.List.{ext_get_or, take_more, get_or-set_same, get_or-set_other, append_assoc}
 use Rattle.std.proofs.lemmas.Bool.{cases_eq, eq-eqb, ne_eqb}
@@ -10,16 +11,12 @@ use Rattle.rules.specs.Lawful.{absent}
 use Rattle.parity_theory.specs.Equations.{set_of}
 use Rattle.parity_theory.specs.Recovering.{odd_negations}
 use Rattle.parity_theory.specs.Reducing.{falling}
-use Rattle.parity_theory.proofs.Systems.{and_assoc, and_true}
 use Rattle.parity_theory.proofs.Members.{set_length}
 
 -- ---- the set of a rule's switches
 
-and_false : (a : Bool) → (a && false) ≡ false
-and_false a = grind arith
-
 absent_push : (v w : ℕ) (vs : List ℕ) → absent v (vs ++ (w ∷ [])) ≡ (absent v vs && not (eqb v w))
-absent_push v w [] = and_true (not (eqb v w))
+absent_push v w [] = and-true (not (eqb v w))
 absent_push v w (u ∷ vs) = ap (λ b. not (eqb v u) && b) (absent_push v w vs) ∙ sym (and_assoc (not (eqb v u)) (absent v vs) (not (eqb v w)))
 
 -- the members are the first i switches
@@ -36,11 +33,11 @@ member_more members vs i size here low high inv k h =
         let p : k ≡ v - 1 = omega arith in
         ap (λ j. get_or (set members j true) k false) (sym p)
         ∙ get_or-set_same members k true false (omega arith)
-        ∙ sym (ap not (ap (λ b. absent (suc k) (take i vs) && not b) (eq-eqb (suc k) v e) ∙ and_false (absent (suc k) (take i vs))))
+        ∙ sym (ap not (ap (λ b. absent (suc k) (take i vs) && not b) (eq-eqb (suc k) v e) ∙ and-false (absent (suc k) (take i vs))))
     by v l m (inr ne) =
         get_or-set_other members (v - 1) k true false (λ q. ne (omega arith))
         ∙ inv k h
-        ∙ sym (ap not (ap (λ b. absent (suc k) (take i vs) && not b) (ne_eqb (suc k) v ne) ∙ and_true (absent (suc k) (take i vs))))
+        ∙ sym (ap not (ap (λ b. absent (suc k) (take i vs) && not b) (ne_eqb (suc k) v ne) ∙ and-true (absent (suc k) (take i vs))))
 
 pub members_set : (members : List Bool) (vs : List ℕ) → length members ≡ 256 → Members members vs → members ≡ set_of 256 vs
 members_set members vs size inv =

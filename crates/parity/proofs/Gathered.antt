@@ -12,7 +12,7 @@ use Rattle.std.specs.declared.iter.FilterMap.{FilterMap}
 use Rattle.std.specs.declared.iter.Chain.{Chain}
 use Rattle.std.proofs.iter.Yields.{fronts}
 use Rattle.std.proofs.lemmas.Iterator.{YieldsList, YieldsList-from_slice}
-use Rattle.std.proofs.lemmas.Iterator.Consumers.{YieldsList-from_chain}
+use Rattle.std.proofs.lemmas.Iterator.Consumers.{YieldsList-at, YieldsList-from_chain}
 use Rattle.rules.specs.declared.literals.Literal.{Literal}
 use Rattle.rules.specs.declared.kinds.Side.{Side}
 use Rattle.rules.specs.declared.rule.Rule.{Rule}
@@ -27,6 +27,7 @@ use Rattle.parity_theory.specs.Recovering.{clauses, named, narrow, recovers, equ
 use Rattle.parity_theory.specs.Reducing.{Row, extended, reduce_from, reduce}
 use Rattle.parity_theory.proofs.Repeats.{reduce_append, repeats}
 use Rattle.parity.specs.declared.equations.Equation.{Equation}
+use Rattle.parity.specs.declared.sorted.Sorted.{Sorted}
 use Rattle.parity.specs.Views.{equation_in}
 use Rattle.parity.specs.Buckets.{shared_bucket, bucket}
 use Rattle.parity.specs.Gathering.{named_by, recovered_by}
@@ -129,13 +130,22 @@ pub each_lawful : (rules : List Rule) → every (lawful 256) (map constraint rul
 each_lawful [] law = tt
 each_lawful (r ∷ rules) law = let p = and_parts (lawful 256 (constraint r)) (every (lawful 256) (map constraint rules)) law in (p.0, each_lawful rules p.1)
 
+-- the sorted rules that the closure looks at
+abbrev pub captured : record { 0 : Bor Sorted } → Sorted
+captured w = w.0.now
+
 -- the iterator of the named and then of the recovered equations gives them all
-pub equations_come : {F G : Type 0} {g : Mut F (Bor Rule × Unit {0}) (Option Equation)} {j : Mut G (Bor Rule × Unit {0}) (Option Equation)} (Good : G → Type 0) (s : Chain (FilterMap (Iter Rule) F) (FilterMap (Iter Rule) G)) (rules : List Rule) → every (lawful 256) (map constraint rules) ≡ true → iter_rest (filter_map_source (chain_first s)) ≡ rules → iter_rest (filter_map_source (chain_second s)) ≡ rules → Good (filter_map_callee (chain_second s)) → chain_first_done s ≡ false → chain_second_done s ≡ false → ((w : F) (x : Bor Rule) (r : Option Equation) (q : F) → lawful 256 (constraint x.now) ≡ true → Called g w (x, tt) r q → option_map equation_in r ≡ named_by (constraint x.now)) → ((w : G) (x : Bor Rule) (r : Option Equation) (q : G) → Good w → lawful 256 (constraint x.now) ≡ true → Called j w (x, tt) r q → Good q × (option_map equation_in r ≡ recovered_by (clauses (map constraint rules)) (constraint x.now))) → YieldsList (chain_steps (filter_map_steps fronts g) (filter_map_steps fronts j)) (λ y. y) s (all_equations rules)
-equations_come {F} {G} {g} {j} Good s rules law from from2 good more more2 names recovers_it =
-    YieldsList-from_chain
-    (YieldsList-from_filter_map_at g (λ (r : Rule). lawful 256 (constraint r) ≡ true) (given named_by) (λ _. Unit {0}) (YieldsList-from_slice rules from) tt (each_lawful rules law) (λ w x r q _ l k. (tt, is_given named_by x.now r (names w x r q l k))))
-    (YieldsList-from_filter_map_at j (λ (r : Rule). lawful 256 (constraint r) ≡ true) (given (recovered_by (clauses (map constraint rules)))) Good (YieldsList-from_slice rules from2) good (each_lawful rules law) (λ w x r q a l k. let n = recovers_it w x r q a l k in (n.0, is_given (recovered_by (clauses (map constraint rules))) x.now r n.1)))
-    more more2
+pub equations_come : {F : Type 0} {g : Mut F (Bor Rule × Unit {0}) (Option Equation)} {j : Mut (record { 0 : Bor Sorted }) (Bor Rule × Unit {0}) (Option Equation)} {s t : Chain (FilterMap (Iter Rule) F) (FilterMap (Iter Rule) (record { 0 : Bor Sorted }))} {n : FilterMap (Iter Rule) F} {m : FilterMap (Iter Rule) (record { 0 : Bor Sorted })} (sorted : Sorted) (rules : List Rule) → sorted.rules.now ≡ rules → every (lawful 256) (map constraint rules) ≡ true → s ≡ t → chain_first t ≡ n → chain_second t ≡ m → chain_first_done t ≡ false → chain_second_done t ≡ false → iter_rest (filter_map_source n) ≡ rules → iter_rest (filter_map_source m) ≡ rules → captured (filter_map_callee m) ≡ sorted → ((w : F) (x : Bor Rule) (r : Option Equation) (q : F) → lawful 256 (constraint x.now) ≡ true → Called g w (x, tt) r q → option_map equation_in r ≡ named_by (constraint x.now)) → ((w : record { 0 : Bor Sorted }) (x : Bor Rule) (r : Option Equation) (q : record { 0 : Bor Sorted }) → captured w ≡ sorted → lawful 256 (constraint x.now) ≡ true → Called j w (x, tt) r q → (captured q ≡ sorted) × (option_map equation_in r ≡ recovered_by (clauses (map constraint (captured w).rules.now)) (constraint x.now))) → YieldsList (chain_steps (filter_map_steps fronts g) (filter_map_steps fronts j)) (λ y. y) s (all_equations rules)
+equations_come {g = g} {j = j} sorted rules over law into first second more more2 from from2 its names recovers_it =
+    YieldsList-at into
+    (YieldsList-from_chain
+    (YieldsList-at first (YieldsList-from_filter_map_at g (λ (r : Rule). lawful 256 (constraint r) ≡ true) (given named_by) (λ _. Unit {0}) (YieldsList-from_slice rules from) tt (each_lawful rules law) (λ w x r q _ l k. (tt, is_given named_by x.now r (names w x r q l k)))))
+    (YieldsList-at second (YieldsList-from_filter_map_at j (λ (r : Rule). lawful 256 (constraint r) ≡ true) (given (recovered_by (clauses (map constraint rules)))) (λ w. captured w ≡ sorted) (YieldsList-from_slice rules from2) its (each_lawful rules law)
+    (λ w x r q a l k.
+    let n = recovers_it w x r q a l k in
+    let own = ap (λ (z : Sorted). recovered_by (clauses (map constraint z.rules.now)) (constraint x.now)) a ∙ ap (λ l. recovered_by (clauses (map constraint l)) (constraint x.now)) over in
+    (n.0, is_given (recovered_by (clauses (map constraint rules))) x.now r (n.1 ∙ own)))))
+    more more2)
 
 -- ---- one more taken in
 

@@ -1,7 +1,7 @@
 -- Rules linked in buckets: one more rule is linked, and a walk along a bucket leaves out nothing that marks.
-use Rattle.std.proofs.Common.{◌≡◌, ℕ, zero, suc, ◌+◌, ◌-◌, ◌<◌, ◌≤◌, Bool, true, false, cond, eqb, ltb, List, [], ◌∷◌, map, length, get_or, drop, set, replicate, Some, None, Option, sym, refl, ap, ◌∙◌, ap₂, inl, inr, arith}
+use Rattle.std.proofs.Common.{◌≡◌, ℕ, zero, suc, ◌+◌, ◌-◌, ◌<◌, ◌≤◌, Bool, true, false, cond, eqb, ltb, List, [], ◌∷◌, map, length, get_or, drop, set, replicate, Some, None, Option, sym, refl, ap, ◌∙◌, subst, ap₂, inl, inr, arith}
 use Rattle.std.specs.List.{position_from}
-use Rattle.std.proofs.lemmas.List.{at_drop_more, at_drop_all, drop-drop, get_or-drop, length-drop, get_or-map, get_or-replicate, get_or-set_same, get_or-set_other}
+use Rattle.std.proofs.lemmas.List.{at_drop_more, at_drop_all, drop-drop, get_or-drop, length-drop, get_or-map, get_or-replicate, get_or-set_same, get_or-set_other, length-map}
 use Rattle.std.proofs.lemmas.Bool.{cases_eq, eqb-true, eq-eqb, ne_eqb, cond-true, cond-false, and_parts}
 use Rattle.rules.specs.declared.literals.Literal.{Literal}
 use Rattle.rules.specs.declared.rule.Rule.{Rule}
@@ -10,6 +10,7 @@ use Rattle.rules.specs.Constraints.{Constraint, clause, switch_of}
 use Rattle.rules.specs.Lawful.{lawful}
 use Rattle.rules.specs.Views.{constraint}
 use Rattle.parity_theory.proofs.Members.{Proper}
+use Rattle.parity.specs.declared.sorted.Sorted.{Sorted}
 use Rattle.parity.specs.Places.{breaking_place, marked, marked_by}
 use Rattle.parity.specs.Buckets.{shared_bucket, bucket, is_bucket, is_in, no_rule, first_from, LinkedFrom}
 use Rattle.parity.proofs.Totals.{other_bucket}
@@ -129,7 +130,7 @@ Walk vs rules b index marks whole = (i : ℕ) × (index ≡ first_from rules b i
 
 module _ (vs : List ℕ) (b : ℕ) (ok : Proper 256 vs) (few : length vs ≤ 5) (is : b ≡ shared_bucket vs) (rules : List Constraint) (law : every (lawful 256) rules ≡ true) where
   -- where it is
-  pub walk_at : (k : ℕ) (marks whole : List Bool) → Walk vs rules b (Some k) marks whole → (k < length rules) × (is_in b (get_or rules k no_rule) ≡ true) × (marked_by vs (drop k rules) marks ≡ whole)
+  walk_at : (k : ℕ) (marks whole : List Bool) → Walk vs rules b (Some k) marks whole → (k < length rules) × (is_in b (get_or rules k no_rule) ≡ true) × (marked_by vs (drop k rules) marks ≡ whole)
   walk_at k marks whole w =
       let f = found vs b ok few is (drop w.0 rules) w.0 k (every_tail (lawful 256) rules w.0 law) (sym w.1) in
       let size = length-drop w.0 rules in (
@@ -138,12 +139,12 @@ module _ (vs : List ℕ) (b : ℕ) (ok : Proper 256 vs) (few : length vs ≤ 5) 
         ap (λ x. marked_by vs (drop x rules) marks) f.at ∙ ap (λ l. marked_by vs l marks) (sym (drop-drop f.far w.0 rules)) ∙ f.skips marks ∙ w.2,
       )
 
-  pub walk_more : (k : ℕ) (new : Option ℕ) (marks after whole : List Bool) → new ≡ first_from rules b (k + 1) → after ≡ marked marks (breaking_place vs (get_or rules k no_rule)) → Walk vs rules b (Some k) marks whole → Walk vs rules b new after whole
+  walk_more : (k : ℕ) (new : Option ℕ) (marks after whole : List Bool) → new ≡ first_from rules b (k + 1) → after ≡ marked marks (breaking_place vs (get_or rules k no_rule)) → Walk vs rules b (Some k) marks whole → Walk vs rules b new after whole
   walk_more k new marks after whole leads does w =
       let at = walk_at k marks whole w in
       (k + 1, leads, ap (marked_by vs (drop (k + 1) rules)) does ∙ sym (at_drop_more (λ l. marked_by vs l marks) rules k no_rule at.0) ∙ at.2)
 
-  pub walk_nearer : (k : ℕ) (new : Option ℕ) → new ≡ first_from rules b (k + 1) → left (length rules) new < left (length rules) (Some k)
+  walk_nearer : (k : ℕ) (new : Option ℕ) → new ≡ first_from rules b (k + 1) → left (length rules) new < left (length rules) (Some k)
   walk_nearer k None e = omega arith
   walk_nearer k (Some m) e =
       let f = found vs b ok few is (drop (k + 1) rules) (k + 1) m (every_tail (lawful 256) rules (k + 1) law) (sym e) in
@@ -151,3 +152,25 @@ module _ (vs : List ℕ) (b : ℕ) (ok : Proper 256 vs) (few : length vs ≤ 5) 
 
   pub walk_end : (marks whole : List Bool) → Walk vs rules b None marks whole → marks ≡ whole
   walk_end marks whole w = sym (lost vs b ok few is (drop w.0 rules) w.0 marks (every_tail (lawful 256) rules w.0 law) (sym w.1)) ∙ w.2
+
+-- one turn of the walk, at the rule with index i
+pub record Turn (vs : List ℕ) (s : Sorted) (b : ℕ) (index : Option ℕ) (i : ℕ) (marks whole : List Bool) : Type 0 where
+  pub inner : i < length s.rules.now
+  pub linked : i < 2112
+  pub nearer : left (length (map constraint s.rules.now)) (get_or s.next i None) < left (length (map constraint s.rules.now)) index
+  pub goes_on : (r : Rule) (after : List Bool) → after ≡ marked marks (breaking_place vs (constraint (get_or s.rules.now i r))) → Walk vs (map constraint s.rules.now) b (get_or s.next i None) after whole
+
+pub turn : (vs : List ℕ) (s : Sorted) (b : ℕ) (index : Option ℕ) (i : ℕ) (marks whole : List Bool) → Proper 256 vs → length vs ≤ 5 → b ≡ shared_bucket vs → index ≡ Some i → Walk vs (map constraint s.rules.now) b index marks whole → Turn vs s b index i marks whole
+turn vs s b index i marks whole ok few is at walk =
+    let rules = map constraint s.rules.now in
+    let size = length-map s.rules.now constraint in
+    let here = subst (λ o. Walk vs rules b o marks whole) at walk in
+    let w = walk_at vs b ok few is rules s.sound i marks whole here in
+    let inner : i < length s.rules.now = omega (arith, w.0, size) in
+    let leads = s.linked.goes_on b i (omega arith) w.0 w.1 in
+    record {
+      inner = inner;
+      linked = omega (arith, w.0, s.linked.room);
+      nearer = subst (λ o. left (length rules) (get_or s.next i None) < left (length rules) o) (sym at) (walk_nearer vs b ok few is rules s.sound i (get_or s.next i None) leads);
+      goes_on = λ r after does. walk_more vs b ok few is rules s.sound i (get_or s.next i None) marks after whole leads (does ∙ ap (λ q. marked marks (breaking_place vs q)) (sym (get_or-map constraint s.rules.now i r no_rule inner))) here;
+    }

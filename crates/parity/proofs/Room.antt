@@ -1,59 +1,32 @@
 -- A reduced system over n switches has at most n rows.
-use Rattle.std.proofs.Common.{◌≡◌, ℕ, suc, ◌<◌, ◌≤◌, Bool, true, not, List, [], ◌∷◌, map, length, Some, None, Option, sym, refl, ap, ◌∙◌, subst, true≢false, arith}
+use Rattle.std.proofs.Common.{◌≡◌, ℕ, suc, ◌<◌, ◌≤◌, Bool, List, [], ◌∷◌, map, length, Some, None, Option, sym, refl, ap, subst, arith}
 use Rattle.std.proofs.lemmas.List.{length-map, length_push}
-use Rattle.std.proofs.lemmas.Bool.{and_from, ne_eqb, le-leb}
-use Rattle.rules.specs.First.{every}
 use Rattle.rules.specs.Settings.{Within}
 use Rattle.rules.specs.Constraints.{Constraint, Each}
-use Rattle.rules.specs.Lawful.{inside, absent, different}
-use Rattle.parity_theory.specs.Equations.{has, Equation}
-use Rattle.parity_theory.specs.Recovering.{clauses, named, equations_of, recover, parities}
+use Rattle.parity_theory.specs.Equations.{Equation}
+use Rattle.parity_theory.specs.Recovering.{parities}
 use Rattle.parity_theory.specs.Reducing.{Row, row, highest, cleared, without, joined, reduce, as_rule, as_rules, rows}
 use Rattle.parity_theory.proofs.Lists.{each_append}
-use Rattle.parity_theory.proofs.Bounds.{Sized, rows_reduced, has_within, dependents_within}
+use Rattle.parity_theory.proofs.Bounds.{rows_reduced, has_within, dependents_within}
 use Rattle.parity_theory.proofs.Members.{tally_absent}
-use Rattle.parity_theory.proofs.Recovers.{each_firsts}
-use Rattle.parity_theory.proofs.Words.{named_sized, recovered_sized}
-use Rattle.parity_theory.proofs.Systems.{members_of, Disjoint, IsHighest, HighestRight, highest_right, Lacks, all_cleared, ReducedRows, ReducedIf, joined_reduced, reduce_reduced}
+use Rattle.parity_theory.proofs.Words.{parities_sized}
+use Rattle.parity_theory.proofs.Rows.{dependents_proper}
+use Rattle.parity_theory.proofs.Systems.{IsHighest, HighestRight, highest_right, Lacks, all_cleared, ReducedRows, ReducedIf, joined_reduced, reduce_reduced}
 use Rattle.parity.specs.declared.equations.Solved.{Solved}
 use Rattle.parity.specs.Views.{solved_row}
 
-abbrev dependent_of : Row → ℕ
-dependent_of r = r.dependent
-
--- the dependents are different
-absent_dependent : (r : Row) (rs : List Row) → has (members_of r) r.dependent ≡ true → Each (Disjoint r) rs → absent r.dependent (map dependent_of rs) ≡ true
-absent_dependent r [] h d = refl
-absent_dependent r (q ∷ rs) h d =
-    and_from _ _
-    (ap not (ne_eqb r.dependent q.dependent (λ e. true≢false (sym h ∙ ap (has (members_of r)) e ∙ d.0.1))))
-    (absent_dependent r rs h d.1)
-
-different_dependents : (rs : List Row) → ReducedRows rs → different (map dependent_of rs) ≡ true
-different_dependents [] h = refl
-different_dependents (r ∷ rs) h = and_from _ _ (absent_dependent r rs h.0.0 h.1) (different_dependents rs h.2)
-
 module _ (n : ℕ) where
-  inside_dependents : (rs : List Row) → Each (λ r. Within n r.dependent) rs → every (inside n) (map dependent_of rs) ≡ true
-  inside_dependents [] h = refl
-  inside_dependents (r ∷ rs) h = and_from _ _ (and_from _ _ (le-leb 1 r.dependent h.0.0) (le-leb r.dependent n h.0.1)) (inside_dependents rs h.1)
-
   few_rows : (rs : List Row) → ReducedRows rs → Each (λ r. Within n r.dependent) rs → length rs ≤ n
-  few_rows rs red within =
-      let all = tally_absent n (map dependent_of rs) (record { ranged = inside_dependents rs within; apart = different_dependents rs red }) in
-      omega (arith, all, length-map rs dependent_of)
+  few_rows rs red within = let ds = map (λ (r : Row). r.dependent) rs in omega (arith, tally_absent n ds (dependents_proper n rs red within), length-map rs (λ (r : Row). r.dependent))
 
   -- the rows of rules over n switches
-  parities_sized : (rules : List Constraint) → Each (Sized n) (parities n rules)
-  parities_sized rules = each_append (Sized n) (named n rules) (recover n rules) (named_sized n rules) (each_firsts (Sized n) (equations_of n (clauses rules)) (recovered_sized n rules))
-
   pub rows_few : (rules rs : List Constraint) → rows n rules ≡ Some rs → length rs ≤ n
   rows_few rules rs h = by (reduce (parities n rules)) refl h
     where
       by : (o : Option (List Row)) → reduce (parities n rules) ≡ o → as_rules o ≡ Some rs → length rs ≤ n
       by None e k = let z : ◌≡◌ {A = ℕ} 0 1 = cc in absurd (omega arith)
       by (Some qs) e k =
-          let p = rows_reduced n (parities n rules) qs (parities_sized rules) e in
+          let p = rows_reduced n (parities n rules) qs (parities_sized n rules) e in
           let same : map as_rule qs ≡ rs = cc in
           omega (arith, few_rows qs p.0 (dependents_within n qs p.0 p.1), length-map qs as_rule, ap length same)
 

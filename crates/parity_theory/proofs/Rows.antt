@@ -109,7 +109,7 @@ absent_dependents : (v : ℕ) (rs : List Row) → Each (λ q. q.dependent ≡ v 
 absent_dependents v [] h = refl
 absent_dependents v (q ∷ rs) h = and_from _ _ (ap not (ne_eqb v q.dependent (λ e. h.0 (sym e)))) (absent_dependents v rs h.1)
 
-dependents_proper : (n : ℕ) (rs : List Row) → ReducedRows rs → Bounded n rs → Proper n (map (λ q. q.dependent) rs)
+pub dependents_proper : (n : ℕ) (rs : List Row) → ReducedRows rs → Bounded n rs → Proper n (map (λ q. q.dependent) rs)
 dependents_proper n [] red b = record { ranged = refl; apart = refl }
 dependents_proper n (r ∷ rs) red b =
     let ih = dependents_proper n rs red.2 b.1 in

@@ -1,5 +1,6 @@
 -- The reduction of equations: its rows are reduced, and the same settings satisfy them.
 use Rattle.std.proofs.Common.{◌≡◌, ℕ, zero, suc, ◌<◌, ◌≤◌, Bool, true, false, cond, ◌&&◌, ◌⊎◌, List, [], ◌∷◌, ◌++◌, map, Some, None, Option, sym, refl, ap, ◌∙◌, inl, inr, true≢false, le_of_suc-le-suc, not-suc-le-zero, arith}
+use Rattle.std.proofs.Math.Bool.{and_assoc, and-true}
 use Rattle.std.proofs.lemmas.Bool.{cond_both, cases_lt, and_parts}
 use Rattle.rules.specs.Settings.{Setting}
 use Rattle.rules.specs.Constraints.{same, Each}
@@ -136,16 +137,8 @@ fits_without : (n : ℕ) (s : Setting) (r : Row) (rs : List Row) → satisfies n
 fits_without n s r [] h = refl
 fits_without n s r (q ∷ rs) h = rw (satisfies_cleared_by n s r q.equation h, fits_without n s r rs h)
 
-pub and_assoc : (a b c : Bool) → ((a && b) && c) ≡ (a && (b && c))
-and_assoc true b c = refl
-and_assoc false b c = refl
-
-pub and_true : (a : Bool) → (a && true) ≡ a
-and_true true = refl
-and_true false = refl
-
 fits_push : (n : ℕ) (s : Setting) (rs : List Row) (r : Row) → fits n s (rs ++ (r ∷ [])) ≡ (fits n s rs && satisfies n s r.equation)
-fits_push n s [] r = and_true (satisfies n s r.equation)
+fits_push n s [] r = and-true (satisfies n s r.equation)
 fits_push n s (q ∷ rs) r = ap (λ b. satisfies n s q.equation && b) (fits_push n s rs r) ∙ sym (and_assoc (satisfies n s q.equation) (fits n s rs) (satisfies n s r.equation))
 
 pub fits_joined : (n : ℕ) (s : Setting) (rs : List Row) (r : Row) → fits n s (joined rs r) ≡ (fits n s rs && satisfies n s r.equation)
@@ -156,7 +149,7 @@ fits_placed n s rs e None h = rw (odd_in_none n e.members s h) (by e.odd)
   where
     by : (b : Bool) → fits_if n s (cond b None (Some rs)) ≡ (fits n s rs && same b false)
     by true = grind arith
-    by false = sym (and_true (fits n s rs))
+    by false = sym (and-true (fits n s rs))
 fits_placed n s rs e (Some d) h = fits_joined n s rs (row d e)
 
 pub fits_extended : (n : ℕ) (s : Setting) (o : Option (List Row)) (e : Equation) → fits_if n s (extended o e) ≡ (fits_if n s o && satisfies n s e)
@@ -165,7 +158,7 @@ fits_extended n s (Some rs) e =
     fits_placed n s rs (cleared rs e) (highest (cleared rs e).members) (highest_right (cleared rs e).members) ∙ and_later (fits n s rs) _ _ (satisfies_cleared n s rs e)
 
 fits_reduced : (n : ℕ) (s : Setting) (o : Option (List Row)) (es : List Equation) → fits_if n s (reduce_from o es) ≡ (fits_if n s o && satisfies_all n s es)
-fits_reduced n s o [] = sym (and_true (fits_if n s o))
+fits_reduced n s o [] = sym (and-true (fits_if n s o))
 fits_reduced n s o (e ∷ es) =
     fits_reduced n s (extended o e) es ∙ ap (λ b. b && satisfies_all n s es) (fits_extended n s o e) ∙ and_assoc (fits_if n s o) (satisfies n s e) (satisfies_all n s es)
 

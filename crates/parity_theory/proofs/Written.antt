@@ -1,6 +1,7 @@
 -- The clauses of a parity rule that is written out.
 use Rattle.std.proofs.Common.{◌≡◌, ℕ, Bool, true, false, cond, not, eqb, ◌↔◌, List, [], ◌∷◌, map, length, filter, sym, refl, ap, ◌∙◌, ap₂, inl, inr, true≢false, arith}
 use mathlib.Core.Bool.{false≢true}
+use Rattle.std.proofs.Math.Bool.{not-not}
 use Rattle.std.proofs.lemmas.List.{length-map}
 use Rattle.std.proofs.lemmas.Bool.{cases_Bool, and_parts, or_parts, or_from, eq-eqb, ne_eqb, not-true, eqb-false}
 use Rattle.rules.specs.declared.literals.Literal.{Literal}
@@ -29,15 +30,11 @@ against_switches [] bs h = refl
 against_switches (v ∷ vs) [] h = absurd (omega arith)
 against_switches (v ∷ vs) (b ∷ bs) h = ap (λ ws. v ∷ ws) (against_switches vs bs (omega arith))
 
-not_not : (b : Bool) → not (not b) ≡ b
-not_not true = refl
-not_not false = refl
-
 against_negations : (vs : List ℕ) (bs : List Bool) → length bs ≡ length vs → odd_negations (against vs bs) ≡ odd_number bs
 against_negations [] [] h = refl
 against_negations [] (b ∷ bs) h = absurd (omega arith)
 against_negations (v ∷ vs) [] h = absurd (omega arith)
-against_negations (v ∷ vs) (b ∷ bs) h = ap₂ xor (not_not b) (against_negations vs bs (omega arith))
+against_negations (v ∷ vs) (b ∷ bs) h = ap₂ xor (not-not b) (against_negations vs bs (omega arith))
 
 pub side_against : (side : Side) (b : Bool) → not (same (is_odd side) b) ≡ true → side_when (not b) ≡ side
 side_against Even true h = refl
