@@ -1,7 +1,6 @@
 -- Settings that a search has found.
 use Rattle.std.proofs.Common.{◌≡◌, ℕ, zero, suc, ◌+◌, ◌<◌, ◌≤◌, Bool, false, List, length, get_or, take, unwrap_or, slice_index_or, Some, sym, refl, ap, ◌∙◌, subst, add-one, zero-add, arith}
 use denote.Param.Members.{Mut}
-use mathlib.Core.Logic.{∥∥₁_elim}
 use Rattle.std.specs.Fn.{Called}
 use Rattle.std.specs.Array.{IsFromFnResultFrom, IsFromFnResult}
 use Rattle.std.proofs.lemmas.List.FromFn.{length-map-range_with_len}
@@ -18,7 +17,7 @@ use Rattle.search.specs.Ends.{end_of}
 use Rattle.search.specs.Moves.{rules_of}
 use Rattle.search.specs.Stacks.{stack_of}
 use Rattle.search.specs.Searches.{course_of, shown}
-use Rattle.search.proofs.Propositions.{standing_prop}
+use Rattle.search.proofs.Standing.{standing_of}
 use Rattle.search.proofs.Reduction.{reduced_of}
 use Rattle.search.proofs.Endings.{found_value}
 use Rattle.session_theory.specs.Session as theory
@@ -47,9 +46,7 @@ same_end_in (due ts) R e r is same finds = ap end_in (subst (λ x. SameEnd R x r
 -- what it shows of a switch is the value of the switch
 pub found_shown : (s : Search) (vs : List Bool) (v : ℕ) → course_of s ≡ found vs → Within s.system.switches v → shown s v ≡ Some (setting vs v)
 found_shown s vs v e within =
-    let n = s.system.switches in
-    let rules = rules_of s.system in
-    found_value n rules (reduced_of s.system) s.state (∥∥₁_elim s.stands (standing_prop n rules s.state) (λ h. h)) vs e v within
+    found_value s.system.switches (rules_of s.system) (reduced_of s.system) s.state (standing_of s) vs e v within
 
 -- the elements of an array that is made by calls, of which each gives P with its index and leaves the closure as it was
 module _ {F B : Type 0} (g : Mut F (ℕ × Unit {0}) B) (P : ℕ → B → Type 0) (f : F) (each : (i : ℕ) (y : B) (q : F) → Called g f (i, tt) y q → P i y × (q ≡ f)) (ys : List B) (d : B) where

@@ -17,7 +17,6 @@ ghost use Rattle.session.specs.Calls.{Went, Admitted, Answers};
 use crate::ends::{End, Settled};
 use crate::events::{Answer, Event};
 use crate::phases::Phase;
-use crate::refusals::refusal;
 use crate::restarting::restart;
 use crate::session::Session;
 use parity::standing::Standing;
@@ -90,7 +89,7 @@ impl Session {
         ensures { Admitted (session_of self.old) (Ok (constraint rule)) result (session_of self.new) }
     {
         if self.rules.rules.len() >= self.count + 64 {
-            return Err(refusal(Cause::MarginFull));
+            return Err(Layer::Session.fault(Cause::MarginFull, 0, 0));
         }
         self.join(rule);
         Ok(())

@@ -7,10 +7,9 @@ ghost use Rattle.session.specs.Calls.{GoesOn};
 use crate::ends::Settled;
 use crate::events::{Answer, Event};
 use crate::phases::Phase;
-use crate::refusals::refusal;
 use crate::session::Session;
 use crate::writing::write_values;
-use rules::faults::{Cause, Fault};
+use rules::faults::{Cause, Fault, Layer};
 use rules::kinds::RawKind;
 
 #[tactic(auto, using(crate::proofs::Copied::lawfully), unfolding(session_theory::specs::Session::Happens))]
@@ -51,14 +50,16 @@ impl Session {
         ensures lawful { GoesOn (session_of self.now) (copied out.old result out.new) (session_of self.now) }
     {
         if out.len() < usize::from(self.rules.switches) {
-            return Err(refusal(Cause::ShortBuffer));
+            return Err(Layer::Session.fault(Cause::ShortBuffer, 0, 0));
         }
         match self.standing {
             Phase::Found => {
                 write_values(out, self.setting().values());
                 Ok(())
             }
-            Phase::Fresh | Phase::Underway | Phase::None => Err(refusal(Cause::NothingFound)),
+            Phase::Fresh | Phase::Underway | Phase::None => {
+                Err(Layer::Session.fault(Cause::NothingFound, 0, 0))
+            }
         }
     }
 }

@@ -11,7 +11,6 @@ mod events;
 mod found;
 pub mod opening;
 pub mod phases;
-mod refusals;
 mod restarting;
 pub mod session;
 mod writing;

@@ -28,17 +28,13 @@ impl Sheet for FirstOn {
     }
 
     fn kind(&self, i: usize) -> Option<Kind> {
-        if i == 0 { Some(Kind::Clause) } else { None }
+        (i == 0).then_some(Kind::Clause)
     }
 
     fn entry(&self, i: usize, j: usize) -> Option<Literal> {
-        if i == 0 && j == 0 {
-            Some(Literal {
-                switch: 1,
-                on: true,
-            })
-        } else {
-            None
-        }
+        (i == 0 && j == 0).then_some(Literal {
+            switch: 1,
+            on: true,
+        })
     }
 }

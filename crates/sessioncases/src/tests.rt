@@ -2,7 +2,7 @@
 use crate::one::FirstOn;
 use rules::faults::{Cause, Fault, Layer};
 use rules::kinds::RawKind;
-use session::ends::End;
+use search::progress::End;
 use session::opening::open;
 use session::session::Session;
 use sheets::placing::Placing;
@@ -13,12 +13,7 @@ use std::alloc::{AllocError, Global};
 use std::test::Fail;
 
 fn refusal(cause: Cause, place: usize) -> Result<(), Fault> {
-    Err(Fault {
-        layer: Layer::Session,
-        cause,
-        record: 0,
-        place,
-    })
+    Err(Layer::Session.fault(cause, 0, place))
 }
 
 // An odd number of the switches 1, 2, 3 is on.
@@ -32,14 +27,10 @@ fn odd_three(heap: Global) -> Result<Table, AllocError> {
     make_table(heap, 3, rules.as_slice())
 }
 
-// Settles, and tells 0 for spent, 1 for found and 2 for none, with the tries.
-fn settle(session: &mut Session, budget: u32) -> (u8, u32) {
+// Settles, and tells the end without the setting, and the tries.
+fn settle(session: &mut Session, budget: u32) -> (End<()>, u32) {
     let settled = session.settle(budget);
-    match settled.end {
-        End::Spent => (0, settled.tries),
-        End::Found(_setting) => (1, settled.tries),
-        End::None => (2, settled.tries),
-    }
+    (settled.end.map(|_setting| ()), settled.tries)
 }
 
 #[test]
@@ -53,16 +44,16 @@ fn rules_taken_in_turn(rt: HostRuntime) -> Result<(), Fail> {
         refusal(Cause::Repeat, 1)
     );
     assert_eq!(rt; session.freedom(), Some(2));
-    assert_eq!(rt; settle(&mut session, 0), (0, 0));
-    assert_eq!(rt; settle(&mut session, 1), (0, 1));
-    assert_eq!(rt; settle(&mut session, 100), (1, 1));
-    assert_eq!(rt; settle(&mut session, 100), (1, 0));
+    assert_eq!(rt; settle(&mut session, 0), (End::Spent, 0));
+    assert_eq!(rt; settle(&mut session, 1), (End::Spent, 1));
+    assert_eq!(rt; settle(&mut session, 100), (End::Found(()), 1));
+    assert_eq!(rt; settle(&mut session, 100), (End::Found(()), 0));
     assert_eq!(rt; session.copy(&mut out), Ok(()));
     assert_eq!(rt; out, [0, 0, 1, 9]);
     assert_eq!(rt; session.take(RawKind::Clause, &[1]), Ok(()));
     assert_eq!(rt; session.copy(&mut out), refusal(Cause::NothingFound, 0));
     assert_eq!(rt; session.freedom(), Some(1));
-    assert_eq!(rt; settle(&mut session, 100), (1, 1));
+    assert_eq!(rt; settle(&mut session, 100), (End::Found(()), 1));
     assert_eq!(rt; session.copy(&mut out), Ok(()));
     assert_eq!(rt; out, [1, 0, 0, 9]);
     let mut short = [7u8; 2];
@@ -70,10 +61,10 @@ fn rules_taken_in_turn(rt: HostRuntime) -> Result<(), Fail> {
     assert_eq!(rt; short, [7, 7]);
     assert_eq!(rt; session.take(RawKind::Clause, &[2]), Ok(()));
     assert_eq!(rt; session.freedom(), Some(0));
-    assert_eq!(rt; settle(&mut session, 0), (1, 0));
+    assert_eq!(rt; settle(&mut session, 0), (End::Found(()), 0));
     assert_eq!(rt; session.take(RawKind::Clause, &[-3]), Ok(()));
     assert_eq!(rt; session.freedom(), None);
-    assert_eq!(rt; settle(&mut session, 100), (2, 0));
+    assert_eq!(rt; settle(&mut session, 100), (End::None, 0));
     Ok(())
 }
 
@@ -93,7 +84,7 @@ fn a_margin_of_64(rt: HostRuntime) -> Result<(), Fail> {
         refusal(Cause::Entry, 0)
     );
     assert_eq!(rt; session.freedom(), Some(1));
-    assert_eq!(rt; settle(&mut session, 5), (1, 1));
+    assert_eq!(rt; settle(&mut session, 5), (End::Found(()), 1));
     Ok(())
 }
 
@@ -106,7 +97,7 @@ fn placed_to_the_top(rt: HostRuntime) -> Result<(), Fail> {
     };
     let mut session = open(heap, &sheet)?;
     assert_eq!(rt; session.freedom(), Some(255));
-    assert_eq!(rt; settle(&mut session, 1_000_000), (1, 255));
+    assert_eq!(rt; settle(&mut session, 1_000_000), (End::Found(()), 255));
     Ok(())
 }
 
@@ -116,7 +107,7 @@ fn another_sheet(rt: HostRuntime) -> Result<(), Fail> {
     let mut session = open(heap, &FirstOn { switches: 2 })?;
     let mut out = [9u8; 2];
     assert_eq!(rt; session.freedom(), Some(1));
-    assert_eq!(rt; settle(&mut session, 10), (1, 1));
+    assert_eq!(rt; settle(&mut session, 10), (End::Found(()), 1));
     assert_eq!(rt; session.copy(&mut out), Ok(()));
     assert_eq!(rt; out, [1, 0]);
     Ok(())
