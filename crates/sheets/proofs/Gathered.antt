@@ -1,13 +1,18 @@
 -- A rule gathered from a sheet entry by entry.
-use Rattle.std.proofs.Common.{◌≡◌, ℕ, ◌<◌, List, [], ◌∷◌, map, Some, None, Option, sym, refl, ap, ◌∙◌, arith}
+use Rattle.std.proofs.Common.{◌≡◌, ℕ, ◌<◌, ◌≤◌, List, [], ◌∷◌, map, length, Some, None, Option, sym, refl, ap, ◌∙◌, arith}
+use Rattle.std.specs.List.{slice_get}
 use Rattle.std.specs.Option.{option_map}
+use Rattle.std.proofs.lemmas.List.{length-map}
 use Rattle.std.proofs.lemmas.Option.{slice_get_within}
 use Rattle.rules.specs.declared.literals.Literal.{Literal}
 use Rattle.rules.specs.declared.kinds.Side.{Side}
+use Rattle.rules.specs.declared.kinds.Kind.{Kind}
 use Rattle.rules.specs.declared.kinds.Kind.TheVariants.{Clause, Parity}
-use Rattle.rules.specs.Constraints.{Constraint, clause, parity, kind, switch_of, positive}
+use Rattle.rules.specs.Constraints.{Constraint, clause, parity, kind, entries, switches, switch_of, positive}
+use Rattle.rules.specs.Lawful.{lawful, widest}
+use Rattle.rules.proofs.Lawfuls.{lawful_by_place}
 use Rattle.sheets.specs.Meaning.{Meaning, LawfulSheet, entries_in, told_kind, told_entry}
-use Rattle.sheets.specs.Telling.{clause_few, entries_few}
+use Rattle.sheets.specs.Telling.{every_nth}
 
 -- the switches of a parity rule, from the literals by which they are told
 switches_back : (vs : List ℕ) → map switch_of (map positive vs) ≡ vs
@@ -25,10 +30,21 @@ parity_told None vs side told h e is = cc
 parity_told (Some (clause ls)) vs side told h e is = cc
 parity_told (Some (parity ws s)) vs side told h e is = let same : vs ≡ ws = e ∙ switches_back ws in cc
 
--- an entry that is told stands within its rule
-module _ (m : Meaning) (law : LawfulSheet m) (i j : ℕ) (l : Literal) where
-  pub clause_entry : told_kind m i ≡ Some Clause → Some l ≡ told_entry m i j → j < 8
-  clause_entry h is = omega (arith, slice_get_within _ j l (sym is), clause_few m law i (sym h))
+length_entries : (r : Constraint) → length (entries r) ≡ length (switches r)
+length_entries (clause ls) = sym (length-map ls switch_of)
+length_entries (parity vs side) = length-map vs positive
 
-  pub parity_entry : Some l ≡ told_entry m i j → j < 16
-  parity_entry is = omega (arith, slice_get_within _ j l (sym is), entries_few m law i)
+-- no rule has more entries than the greatest width of its kind
+told_few : (m : Meaning) → LawfulSheet m → (i : ℕ) (k : Kind) → told_kind m i ≡ Some k → length (entries_in (slice_get m.rules i)) ≤ widest k
+told_few m law i k h = by (slice_get m.rules i) refl h
+  where
+    by : (o : Option Constraint) → slice_get m.rules i ≡ o → option_map kind o ≡ Some k → length (entries_in o) ≤ widest k
+    by None e h = cc
+    by (Some r) e h =
+        let here = lawful_by_place _ r (every_nth (lawful m.switches) m.rules i r law.sound e) in
+        let same : kind r ≡ k = cc in
+        omega (arith, length_entries r, here.few, ap widest same)
+
+-- an entry that is told stands within the width of its kind
+pub entry_within : (m : Meaning) → LawfulSheet m → (i j : ℕ) (k : Kind) (l : Literal) → told_kind m i ≡ Some k → Some l ≡ told_entry m i j → j < widest k
+entry_within m law i j k l h is = omega (arith, slice_get_within _ j l (sym is), told_few m law i k h)

@@ -96,7 +96,7 @@ entries_inside n (clause ls) h j l e = every_nth (inside n) (map switch_of ls) j
 entries_inside n (parity vs side) h j l e = by (slice_get vs j) refl (sym (slice_get-map positive vs j) ∙ e)
   where
     by : (o : Option ℕ) → slice_get vs j ≡ o → option_map positive o ≡ Some l → inside n l.switch ≡ true
-    by None at p = let z : ◌≡◌ {A = ℕ} 0 1 = cc in absurd (omega arith)
+    by None at p = cc
     by (Some v) at p = let same : l ≡ positive v = cc in ap (λ (x : Literal). inside n x.switch) same ∙ every_nth (inside n) vs j v h at
 
 -- the switch of an entry is one of the sheet's
@@ -104,7 +104,7 @@ pub told_inside : (m : Meaning) (i j : ℕ) (l : Literal) → LawfulSheet m → 
 told_inside m i j l w e = by (slice_get m.rules i) refl e
   where
     by : (o : Option Constraint) → slice_get m.rules i ≡ o → slice_get (entries_in o) j ≡ Some l → l.switch ≤ m.switches
-    by None at e = let z : ◌≡◌ {A = ℕ} 0 1 = cc in absurd (omega arith)
+    by None at e = cc
     by (Some r) at e =
         let here = every_nth (lawful m.switches) m.rules i r w.sound at in
         let rest = (and_parts (width_fits (kind r) (length (switches r))) _ here).1 in

@@ -1,14 +1,16 @@
 use Rattle.std.proofs.Common.{◌++◌, drop, sym, ap, ◌∙◌}
 use Rattle.std.specs.List.{slice_get}
+use Rattle.rules.specs.declared.kinds.Kind.TheVariants.{Clause}
 use Rattle.rules.specs.Views.{literals_of}
 use Rattle.sheets.specs.Meaning.{entries_in}
-use Rattle.sheets.proofs.Gathered.{clause_told, clause_entry}
+use Rattle.sheets.proofs.Gathered.{clause_told, entry_within}
 use Rattle.sheets.proofs.Lefts.{left_some, left_none, taken_more, taken_all}
 use Rattle.sheets.proofs.rules_of.clause_at.Goals as goal
 
 pub push-requires : goal.push-requires
 push-requires g c =
-    clause_entry (g.S.Sheet.meaning c.args.sheet.now) (g.met.S.Sheet.lawful c.args.sheet.now) c.args.i c.loop-literal.clause.width c.in-Some.literal c.requires c.in-Some.ensures
+    let sheet = c.args.sheet.now in
+    entry_within (g.S.Sheet.meaning sheet) (g.met.S.Sheet.lawful sheet) c.args.i c.loop-literal.clause.width Clause c.in-Some.literal c.requires c.in-Some.ensures
 
 pub loop-literal-preserved : goal.loop-literal-preserved
 loop-literal-preserved g c =

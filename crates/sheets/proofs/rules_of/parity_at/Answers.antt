@@ -1,15 +1,17 @@
 use Rattle.std.proofs.Common.{◌++◌, map, drop, sym, ap, ◌∙◌, arith}
 use Rattle.std.specs.List.{slice_get}
+use Rattle.rules.specs.declared.kinds.Kind.TheVariants.{Parity}
 use Rattle.rules.specs.Constraints.{switch_of}
 use Rattle.rules.specs.Views.{switches_of}
 use Rattle.sheets.specs.Meaning.{entries_in}
-use Rattle.sheets.proofs.Gathered.{parity_told, parity_entry}
+use Rattle.sheets.proofs.Gathered.{parity_told, entry_within}
 use Rattle.sheets.proofs.Lefts.{left_some, left_none, taken_more, taken_all}
 use Rattle.sheets.proofs.rules_of.parity_at.Goals as goal
 
 pub push-requires : goal.push-requires
 push-requires g c =
-    let here = parity_entry (g.S.Sheet.meaning c.args.sheet.now) (g.met.S.Sheet.lawful c.args.sheet.now) c.args.i c.loop-literal.parity.width c.in-Some.literal c.in-Some.ensures in
+    let sheet = c.args.sheet.now in
+    let here = entry_within (g.S.Sheet.meaning sheet) (g.met.S.Sheet.lawful sheet) c.args.i c.loop-literal.parity.width (Parity c.args.side) c.in-Some.literal c.requires c.in-Some.ensures in
     (omega arith, here)
 
 pub loop-literal-preserved : goal.loop-literal-preserved
