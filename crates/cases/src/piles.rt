@@ -1,7 +1,7 @@
 // Placings and pairs at the edges, and what they tell at each index.
-use rules::faults::{Cause, Fault, Layer};
+use crate::made::{odd_three, on, repeated};
+use rules::faults::{Cause, Layer};
 use rules::kinds::{Kind, RawKind, Side};
-use rules::literals::Literal;
 use sheets::pair::Pair;
 use sheets::placing::Placing;
 use sheets::raw::RawRule;
@@ -11,40 +11,9 @@ use sheets::tabling::make_table;
 use std::alloc::{AllocError, Global};
 use std::test::Fail;
 
-fn refusal(cause: Cause) -> Result<(), Fault> {
-    Err(Fault {
-        layer: Layer::Pile,
-        cause,
-        record: 0,
-        place: 0,
-    })
-}
-
-fn on(switch: u16) -> Option<Literal> {
-    Some(Literal { switch, on: true })
-}
-
-// An odd number of the switches 1, 2, 3 is on.
-fn odd_three(heap: Global) -> Result<Table, AllocError> {
-    let mut rules = Vec::new(heap);
-    let entries = [1i16, 2, 3].to_vec(heap)?;
-    rules.push(RawRule {
-        kind: RawKind::Parity(1),
-        entries,
-    })?;
-    make_table(heap, 3, rules.as_slice())
-}
-
 // That many clauses, each of the one literal 1.
 fn clauses(heap: Global, count: u16) -> Result<Table, AllocError> {
-    let mut rules = Vec::new(heap);
-    for _ in 0..count {
-        let entries = [1i16].to_vec(heap)?;
-        rules.push(RawRule {
-            kind: RawKind::Clause,
-            entries,
-        })?;
-    }
+    let rules = repeated(heap, RawKind::Clause, &[1], count)?;
     make_table(heap, 2, rules.as_slice())
 }
 
@@ -65,7 +34,10 @@ fn placed_to_the_top(rt: HostRuntime) -> Result<(), Fail> {
             below: odd_three(heap)?,
             by,
         };
-        assert_eq!(rt; past.check(), refusal(Cause::PlacedTooHigh));
+        assert_eq!(rt;
+            past.check(),
+            Err(Layer::Pile.fault(Cause::PlacedTooHigh, 0, 0))
+        );
         assert_eq!(rt; past.switches(), 0);
         assert_eq!(rt; past.count(), 0);
         assert_eq!(rt; past.kind(0), None);
@@ -96,7 +68,10 @@ fn pairs_to_the_limit(rt: HostRuntime) -> Result<(), Fail> {
         first: full,
         second: clauses(heap, 1)?,
     };
-    assert_eq!(rt; past.check(), refusal(Cause::PairTooLong));
+    assert_eq!(rt;
+        past.check(),
+        Err(Layer::Pile.fault(Cause::PairTooLong, 0, 0))
+    );
     assert_eq!(rt; past.switches(), 0);
     assert_eq!(rt; past.count(), 0);
     Ok(())

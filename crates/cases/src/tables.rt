@@ -1,38 +1,30 @@
 // Tables at the edges: widths, switch counts, entries, sides, repeats, rule counts.
+use crate::made::{entries_to, raw_rule, repeated};
 use rules::faults::{Cause, Fault, Layer};
 use rules::kinds::RawKind;
 use sheets::raw::RawRule;
 use sheets::sheet::Sheet;
 use sheets::tabling::{check_table, make_table};
-use std::alloc::{AllocError, Global};
+use std::slice;
 use std::test::Fail;
 
+// The fault of a table.
 fn refusal(cause: Cause, record: u16, place: usize) -> Result<(), Fault> {
-    Err(Fault {
-        layer: Layer::Table,
-        cause,
-        record,
-        place,
-    })
+    Err(Layer::Table.fault(cause, record, place))
 }
 
-// One rule with these entries.
-fn one(heap: Global, kind: RawKind, entries: &[i16]) -> Result<Vec<RawRule>, AllocError> {
-    let mut rules = Vec::new(heap);
-    let entries = entries.to_vec(heap)?;
-    rules.push(RawRule { kind, entries })?;
-    Ok(rules)
-}
-
-// A rule on the switches 1 to `width`.
-fn wide(heap: Global, kind: RawKind, width: i16) -> Result<Vec<RawRule>, AllocError> {
-    let mut entries = Vec::new(heap);
-    for v in 0..width {
-        entries.push(v.saturating_add(1))?;
+// Passed, or refused for the cause at that place of the first rule.
+fn passed_if(passes: bool, cause: Cause, place: usize) -> Result<(), Fault> {
+    if passes {
+        Ok(())
+    } else {
+        refusal(cause, 0, place)
     }
-    let mut rules = Vec::new(heap);
-    rules.push(RawRule { kind, entries })?;
-    Ok(rules)
+}
+
+// The check of a table of one rule over n switches.
+fn check_alone(n: u16, rule: &RawRule) -> Result<(), Fault> {
+    check_table(n, slice::from_ref(rule))
 }
 
 #[test]
@@ -40,13 +32,9 @@ fn widths(rt: HostRuntime) -> Result<(), Fail> {
     let heap = rt.alloc();
     for (kind, most) in [(RawKind::Clause, 8i16), (RawKind::Parity(1), 16i16)] {
         for width in 0i16..20i16 {
-            let rules = wide(heap, kind, width)?;
-            let expected = if width >= 1 && width <= most {
-                Ok(())
-            } else {
-                refusal(Cause::Width, 0, 0)
-            };
-            assert_eq!(rt; check_table(20, rules.as_slice()), expected);
+            let rule = raw_rule(heap, kind, entries_to(heap, width)?.as_slice())?;
+            let expected = passed_if(width >= 1 && width <= most, Cause::Width, 0);
+            assert_eq!(rt; check_alone(20, &rule), expected);
         }
     }
     Ok(())
@@ -71,20 +59,13 @@ fn entries(rt: HostRuntime) -> Result<(), Fail> {
         (odd, 0, false),
         (odd, 6, false),
     ] {
-        let rules = one(heap, kind, &[1, entry])?;
-        let expected = if fits {
-            Ok(())
-        } else {
-            refusal(Cause::Entry, 0, 1)
-        };
-        assert_eq!(rt; check_table(n, rules.as_slice()), expected);
+        let rule = raw_rule(heap, kind, &[1, entry])?;
+        let expected = passed_if(fits, Cause::Entry, 1);
+        assert_eq!(rt; check_alone(n, &rule), expected);
     }
     for again in [2i16, -2] {
-        let rules = one(heap, clause, &[1, 2, 3, again, 9])?;
-        assert_eq!(rt;
-            check_table(n, rules.as_slice()),
-            refusal(Cause::Repeat, 0, 3)
-        );
+        let rule = raw_rule(heap, clause, &[1, 2, 3, again, 9])?;
+        assert_eq!(rt; check_alone(n, &rule), refusal(Cause::Repeat, 0, 3));
     }
     Ok(())
 }
@@ -93,19 +74,12 @@ fn entries(rt: HostRuntime) -> Result<(), Fail> {
 fn sides_and_switches(rt: HostRuntime) -> Result<(), Fail> {
     let heap = rt.alloc();
     for (side, fits) in [(0u8, true), (1, true), (2, false), (255, false)] {
-        let rules = one(heap, RawKind::Parity(side), &[1, 2])?;
-        let expected = if fits {
-            Ok(())
-        } else {
-            refusal(Cause::Entry, 0, 0)
-        };
-        assert_eq!(rt; check_table(3, rules.as_slice()), expected);
+        let rule = raw_rule(heap, RawKind::Parity(side), &[1, 2])?;
+        let expected = passed_if(fits, Cause::Entry, 0);
+        assert_eq!(rt; check_alone(3, &rule), expected);
     }
-    let rules = one(heap, RawKind::Parity(7), &[])?;
-    assert_eq!(rt;
-        check_table(3, rules.as_slice()),
-        refusal(Cause::Width, 0, 0)
-    );
+    let empty = raw_rule(heap, RawKind::Parity(7), &[])?;
+    assert_eq!(rt; check_alone(3, &empty), refusal(Cause::Width, 0, 0));
     for (n, fits) in [
         (0u16, false),
         (1, true),
@@ -113,14 +87,10 @@ fn sides_and_switches(rt: HostRuntime) -> Result<(), Fail> {
         (257, false),
         (65535, false),
     ] {
-        let rules = one(heap, RawKind::Clause, &[1])?;
-        let expected = if fits {
-            Ok(())
-        } else {
-            refusal(Cause::SwitchCount, 0, 0)
-        };
-        assert_eq!(rt; check_table(n, rules.as_slice()), expected);
-        let table = make_table(heap, n, rules.as_slice())?;
+        let rule = raw_rule(heap, RawKind::Clause, &[1])?;
+        let expected = passed_if(fits, Cause::SwitchCount, 0);
+        assert_eq!(rt; check_alone(n, &rule), expected);
+        let table = make_table(heap, n, slice::from_ref(&rule))?;
         assert_eq!(rt; table.switches(), if fits { n } else { 0 });
         assert_eq!(rt; table.count(), if fits { 1 } else { 0 });
     }
@@ -130,21 +100,10 @@ fn sides_and_switches(rt: HostRuntime) -> Result<(), Fail> {
 #[test]
 fn rule_counts(rt: HostRuntime) -> Result<(), Fail> {
     let heap = rt.alloc();
-    let mut rules = Vec::new(heap);
-    for _ in 0..1024u16 {
-        let entries = [3i16].to_vec(heap)?;
-        rules.push(RawRule {
-            kind: RawKind::Clause,
-            entries,
-        })?;
-    }
+    let mut rules = repeated(heap, RawKind::Clause, &[3], 1024)?;
     assert_eq!(rt; check_table(3, rules.as_slice()), Ok(()));
     assert_eq!(rt; make_table(heap, 3, rules.as_slice())?.count(), 1024);
-    let entries = [9i16].to_vec(heap)?;
-    rules.push(RawRule {
-        kind: RawKind::Clause,
-        entries,
-    })?;
+    rules.push(raw_rule(heap, RawKind::Clause, &[9])?)?;
     assert_eq!(rt;
         check_table(3, rules.as_slice()),
         refusal(Cause::RuleCount, 1024, 0)

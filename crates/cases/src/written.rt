@@ -1,11 +1,10 @@
 // Files in piles, and sheets written as first-year files and read back.
+use crate::made::{entries_to, off, on, repeated};
 use files::any::read_any;
 use rules::faults::{Cause, Fault, Layer};
 use rules::kinds::{Kind, RawKind, Side};
-use rules::literals::Literal;
 use sheets::pair::Pair;
 use sheets::placing::Placing;
-use sheets::raw::RawRule;
 use sheets::sheet::Sheet;
 use sheets::table::Table;
 use sheets::tabling::make_table;
@@ -19,36 +18,15 @@ const ODD_THREE: [u8; 18] = *b"F3\x03\0PA\x03\x01\x01\0\x02\0\x03\0EN\x01\0";
 const WRITTEN: [u8; 80] =
     *b"F1\x03\0CL\x01\0\x02\0\x03\0\0\0\0\0\0\0\0\0\0\0CL\x01\0\xFE\xFF\xFD\xFF\0\0\0\0\0\0\0\0\0\0CL\xFF\xFF\x02\0\xFD\xFF\0\0\0\0\0\0\0\0\0\0CL\xFF\xFF\xFE\xFF\x03\0\0\0\0\0\0\0\0\0\0\0EN\x04\0";
 
+// The fault of the writer.
 fn refusal(cause: Cause, record: u16) -> Result<usize, Fault> {
-    Err(Fault {
-        layer: Layer::Writer,
-        cause,
-        record,
-        place: 0,
-    })
-}
-
-fn on(switch: u16) -> Option<Literal> {
-    Some(Literal { switch, on: true })
-}
-
-fn off(switch: u16) -> Option<Literal> {
-    Some(Literal { switch, on: false })
+    Err(Layer::Writer.fault(cause, record, 0))
 }
 
 // That many parity rules on the switches 1 to `width`.
 fn parities(heap: Global, count: u16, width: i16) -> Result<Table, AllocError> {
-    let mut rules = Vec::new(heap);
-    for _ in 0..count {
-        let mut entries = Vec::new(heap);
-        for v in 0..width {
-            entries.push(v.saturating_add(1))?;
-        }
-        rules.push(RawRule {
-            kind: RawKind::Parity(0),
-            entries,
-        })?;
-    }
+    let entries = entries_to(heap, width)?;
+    let rules = repeated(heap, RawKind::Parity(0), entries.as_slice(), count)?;
     make_table(heap, 16, rules.as_slice())
 }
 
@@ -82,11 +60,9 @@ fn written_and_read_back(rt: HostRuntime) -> Result<(), Fail> {
     let sheet = read_any(heap, &ODD_THREE)?;
     let mut out = [0xAAu8; 82];
     assert_eq!(rt; write_first_year(&sheet, &mut out), Ok(80));
-    for i in 0..80usize {
-        assert_eq!(rt; out[i], WRITTEN[i]);
-    }
-    assert_eq!(rt; out[80], 0xAA);
-    assert_eq!(rt; out[81], 0xAA);
+    let (file, behind) = out.split_at(80);
+    assert_eq!(rt; file, WRITTEN.as_slice());
+    assert_eq!(rt; behind, [0xAA; 2].as_slice());
     let mut exact = [0xAAu8; 80];
     assert_eq!(rt; write_first_year(&sheet, &mut exact), Ok(80));
     let back = read_any(heap, &exact)?;
@@ -98,9 +74,7 @@ fn written_and_read_back(rt: HostRuntime) -> Result<(), Fail> {
         write_first_year(&sheet, &mut short),
         refusal(Cause::ShortBuffer, 0)
     );
-    for byte in short {
-        assert_eq!(rt; byte, 0xAA);
-    }
+    assert_eq!(rt; short, [0xAA; 79]);
     Ok(())
 }
 
