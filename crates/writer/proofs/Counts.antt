@@ -1,5 +1,5 @@
 -- How many clauses a parity rule is written as, and how many records a rule takes.
-use Rattle.std.proofs.Common.{◌≡◌, ℕ, suc, ◌+◌, ◌*◌, ◌/◌, ◌%◌, ◌^◌, ◌<◌, ◌≤◌, Bool, true, false, cond, not, List, [], ◌∷◌, map, length, Some, None, Ok, Err, IfSome, filter, Option, sym, refl, ap, ◌∙◌, arith, length-append, pow_mono}
+use Rattle.std.proofs.Common.{◌≡◌, ℕ, suc, ◌+◌, ◌*◌, ◌/◌, ◌%◌, ◌^◌, ◌<◌, ◌≤◌, Bool, true, false, not, List, [], ◌∷◌, map, length, Some, None, Ok, Err, IfSome, filter, Option, sym, refl, ap, ◌∙◌, arith, length-append, pow_mono}
 use native.Mathlib.Nat.{two-pow-succ}
 use lib.ListN.{length-map}
 use Rattle.std.specs.Option.{ok_or}
@@ -11,25 +11,18 @@ use Rattle.rules.specs.declared.kinds.Side.{Side}
 use Rattle.rules.specs.declared.faults.Fault.{Fault}
 use Rattle.rules.specs.Constraints.{Constraint, parity, same, is_odd}
 use Rattle.parity_theory.specs.Writing.{settings, odd_number, off_side, against, written_out}
-use Rattle.writer.specs.Expansion.{expanded, clauses_of, is_wide}
+use Rattle.writer.specs.Expansion.{clauses_of}
 use Rattle.writer.specs.Writing.{first_wide}
 use Rattle.writer.specs.Parts.{records_for}
 use Rattle.writer.proofs.Settings.{length_settings}
 
 length_kept_map : {X Y : Type 0} (p : Y → Bool) (f : X → Y) (xs : List X) → length (filter p (map f xs)) ≡ length (filter (λ x. p (f x)) xs)
 length_kept_map p f [] = refl
-length_kept_map p f (x ∷ xs) = by (p (f x)) (length_kept_map p f xs)
-  where
-    by : (b : Bool) → length (filter p (map f xs)) ≡ length (filter (λ y. p (f y)) xs) → length (cond b (f x ∷ filter p (map f xs)) (filter p (map f xs))) ≡ length (cond b (x ∷ filter (λ y. p (f y)) xs) (filter (λ y. p (f y)) xs))
-    by true h = ap suc h
-    by false h = h
+length_kept_map p f (x ∷ xs) = grind (arith, length_kept_map p f xs)
 
 -- one more switch on turns the side
 turned : (a b : Bool) → not (same a (not b)) ≡ not (not (same a b))
-turned true true = refl
-turned true false = refl
-turned false true = refl
-turned false false = refl
+turned a b = grind arith
 
 -- one half of the settings break a parity rule
 off_side_half : (side : Side) (n : ℕ) → length (filter (off_side side) (settings (suc n))) ≡ 2 ^ n
@@ -79,15 +72,7 @@ refused (Some n) e f h = cc
 -- the first of the rules that are left
 module _ (i : ℕ) (r : Constraint) (rules : List Constraint) where
   pub count_more : (k : ℕ) → Some k ≡ records_for r → (length (clauses_of (r ∷ rules)) ≡ k + length (clauses_of rules)) × (first_wide i (r ∷ rules) ≡ first_wide (i + 1) rules)
-  count_more k h = by (is_wide r) h
-    where
-      by : (b : Bool) → Some k ≡ cond b None (Some (length (expanded r))) → (length (clauses_of (r ∷ rules)) ≡ k + length (clauses_of rules)) × (cond b (Some i) (first_wide (i + 1) rules) ≡ first_wide (i + 1) rules)
-      by true h = cc
-      by false h = let same : k ≡ length (expanded r) = cc in (omega (arith, length-append (expanded r) (clauses_of rules)), refl)
+  count_more k h = (grind (arith, length-append), grind arith)
 
   pub wide_found : None ≡ records_for r → first_wide i (r ∷ rules) ≡ Some i
-  wide_found h = by (is_wide r) h
-    where
-      by : (b : Bool) → None ≡ cond b None (Some (length (expanded r))) → cond b (Some i) (first_wide (i + 1) rules) ≡ Some i
-      by true h = refl
-      by false h = cc
+  wide_found h = grind arith

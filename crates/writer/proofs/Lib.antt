@@ -3,7 +3,6 @@ pub mod Puts
 pub mod Settings
 pub mod Slots
 pub mod Values
-pub mod Refusals
 pub mod Counts
 pub mod Outcomes
 pub mod Entries

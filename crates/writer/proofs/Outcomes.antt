@@ -1,12 +1,13 @@
 -- The whole file in a buffer, and what comes of a sheet.
-use Rattle.std.proofs.Common.{◌≡◌, ℕ, ◌+◌, ◌*◌, ◌<◌, ◌≤◌, leb, List, [], ◌∷◌, ◌++◌, length, Some, None, Ok, Err, Option, sym, refl, ap, ◌∙◌, subst, arith, length-append}
+use Rattle.std.proofs.Common.{◌≡◌, ℕ, ◌+◌, ◌*◌, ◌<◌, ◌≤◌, true, leb, List, [], ◌∷◌, ◌++◌, length, Some, None, Ok, Err, Option, sym, refl, ap, ◌∙◌, subst, arith, length-append}
 use Rattle.std.specs.List.{flat_map}
 use Rattle.std.proofs.lemmas.Grind.{flat_map-append}
 use Rattle.std.proofs.lemmas.Bool.{leb-true}
 use Rattle.rules.specs.declared.faults.Cause.TheVariants.{ShortBuffer}
 use Rattle.rules.specs.declared.literals.Literal.{Literal}
 use Rattle.rules.specs.declared.faults.Fault.{Fault}
-use Rattle.rules.specs.First.{verdict}
+use Rattle.rules.specs.First.{every, verdict}
+use Rattle.rules.specs.Constraints.{Constraint}
 use Rattle.rules.specs.Lawful.{inside}
 use Rattle.rules.proofs.Lawfuls.{passed}
 use Rattle.sheets.specs.Meaning.{Meaning}
@@ -15,17 +16,16 @@ use Rattle.files.proofs.Steps.{other_value}
 use Rattle.writer.specs.declared.output.Output.{Output}
 use Rattle.writer.specs.Bytes.{record_bytes, over_at}
 use Rattle.writer.specs.Output.{HasRoom, Puts}
-use Rattle.writer.specs.Expansion.{expanded, clauses_of}
+use Rattle.writer.specs.Expansion.{expanded, clauses_of, is_narrow}
 use Rattle.writer.specs.Writing.{rule_bytes, head_bytes, end_bytes, file_bytes, first_year_bytes, writer_fault, first_wide, unless_wide, refusal, writing, Outcome}
 use Rattle.writer.specs.Parts.{record_count, Writable}
 use Rattle.writer.proofs.Buffers.{over_all}
 use Rattle.writer.proofs.Puts.{room_front, room_then, puts_then}
 use Rattle.writer.proofs.Slots.{length_record}
-use Rattle.writer.proofs.Refusals.{all_narrow}
 
 flat_map_twice : {X Y Z : Type 0} (f : X → List Y) (g : Y → List Z) (xs : List X) → flat_map g (flat_map f xs) ≡ flat_map (λ x. flat_map g (f x)) xs
 flat_map_twice f g [] = refl
-flat_map_twice f g (x ∷ xs) = flat_map-append g (f x) (flat_map f xs) ∙ ap (λ l. flat_map g (f x) ++ l) (flat_map_twice f g xs)
+flat_map_twice f g (x ∷ xs) = grind (arith, flat_map-append, flat_map_twice f g xs)
 
 length_records : (cs : List (List Literal)) → length (flat_map record_bytes cs) ≡ 18 * length cs
 length_records [] = refl
@@ -67,6 +67,10 @@ accepted (Some f) x k h = cc
 not_wide : (o : Option ℕ) (later : Option Fault) → unless_wide o later ≡ None → (o ≡ None) × (later ≡ None)
 not_wide None later h = (refl, h)
 not_wide (Some k) later h = cc
+
+all_narrow : (k : ℕ) (rules : List Constraint) → first_wide k rules ≡ None → every is_narrow rules ≡ true
+all_narrow k [] h = refl
+all_narrow k (r ∷ rules) h = grind (arith, all_narrow (k + 1) rules)
 
 unrefused : (m : Meaning) → refusal m ≡ None → Writable m
 unrefused m h =

@@ -1,5 +1,5 @@
 -- All settings of a few switches, numbered by patterns, and the records that they give.
-use Rattle.std.proofs.Common.{◌≡◌, ℕ, zero, suc, ◌+◌, ◌-◌, ◌*◌, ◌/◌, ◌%◌, ◌^◌, ◌<◌, ◌≤◌, Bool, true, false, cond, eqb, List, [], ◌∷◌, ◌++◌, map, length, get_or, take, filter, sym, refl, ap, ◌∙◌, ap₂, add-one, arith, length-append}
+use Rattle.std.proofs.Common.{◌≡◌, ℕ, zero, suc, ◌+◌, ◌-◌, ◌*◌, ◌/◌, ◌%◌, ◌^◌, ◌<◌, ◌≤◌, Bool, true, false, cond, eqb, List, [], ◌∷◌, map, length, get_or, take, filter, sym, refl, ap, ◌∙◌, ap₂, add-one, arith, length-append}
 use native.Mathlib.Nat.{two-pow-succ}
 use lib.ListN.{length-map}
 use Rattle.std.specs.List.{range_with_len, flat_map}
@@ -68,11 +68,7 @@ clause_bytes vs side bs = cond (off_side side bs) (record_bytes (against vs bs))
 
 flat_map_kept : {X Y Z : Type 0} (g : Y → List Z) (h : X → Y) (p : X → Bool) (xs : List X) → flat_map g (map h (filter p xs)) ≡ flat_map (λ x. cond (p x) (g (h x)) []) xs
 flat_map_kept g h p [] = refl
-flat_map_kept g h p (x ∷ xs) = by (p x) (flat_map_kept g h p xs)
-  where
-    by : (b : Bool) → flat_map g (map h (filter p xs)) ≡ flat_map (λ y. cond (p y) (g (h y)) []) xs → flat_map g (map h (cond b (x ∷ filter p xs) (filter p xs))) ≡ cond b (g (h x)) [] ++ flat_map (λ y. cond (p y) (g (h y)) []) xs
-    by true e = ap (λ l. g (h x) ++ l) e
-    by false e = e
+flat_map_kept g h p (x ∷ xs) = grind (arith, flat_map_kept g h p xs)
 
 pub parity_bytes : (vs : List ℕ) (side : Side) → flat_map (clause_bytes vs side) (settings (length vs)) ≡ rule_bytes (parity vs side)
 parity_bytes vs side = sym (flat_map_kept record_bytes (against vs) (off_side side) (settings (length vs)))

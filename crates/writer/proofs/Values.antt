@@ -2,6 +2,7 @@
 use Rattle.std.proofs.Common.{◌≡◌, ℕ, zero, suc, ◌+◌, ◌/◌, ◌%◌, ◌^◌, ◌<◌, Bool, false, not, eqb, List, [], ◌∷◌, ◌++◌, length, get_or, take, sym, refl, ap, ◌∙◌, arith}
 use native.Mathlib.Nat.{two-pow-succ}
 use lib.Count.{ones, ones_in, ones_step}
+use Rattle.std.proofs.lemmas.Bool.Decides.{nat_tests}
 use Rattle.std.proofs.lemmas.List.{take_more}
 use Rattle.std.proofs.lemmas.List.FromFn.{length-map-range_with_len, get_or-map-range_with_len}
 use Rattle.rules.specs.declared.literals.Literal.{Literal}
@@ -17,13 +18,8 @@ odd_last : (bs : List Bool) (b : Bool) → odd_number (with_last b bs) ≡ xor (
 odd_last [] b = xor_false b
 odd_last (a ∷ bs) b = ap (xor a) (odd_last bs b) ∙ xor_assoc a (odd_number bs) b
 
-odd_sum : (a r s : ℕ) → r ≡ a % 2 → s < 2 → xor (eqb r 1) (eqb s 1) ≡ eqb ((s + a) % 2) 1
-odd_sum a zero zero e h = let k : (0 + a) % 2 ≡ 0 = omega arith in ap (λ n. eqb n 1) (sym k)
-odd_sum a zero (suc zero) e h = let k : (1 + a) % 2 ≡ 1 = omega arith in ap (λ n. eqb n 1) (sym k)
-odd_sum a (suc zero) zero e h = let k : (0 + a) % 2 ≡ 1 = omega arith in ap (λ n. eqb n 1) (sym k)
-odd_sum a (suc zero) (suc zero) e h = let k : (1 + a) % 2 ≡ 0 = omega arith in ap (λ n. eqb n 1) (sym k)
-odd_sum a r (suc (suc s)) e h = absurd (omega arith)
-odd_sum a (suc (suc r)) s e h = absurd (omega arith)
+odd_sum : (a s : ℕ) → s < 2 → xor (eqb (a % 2) 1) (eqb s 1) ≡ eqb ((s + a) % 2) 1
+odd_sum a s h = grind (arith, nat_tests)
 
 -- an odd number of the switches is on where the pattern has an odd number of ones
 pub odd_ones : (w p : ℕ) → p < 2 ^ w → odd_number (values w p) ≡ eqb (ones p % 2) 1
@@ -33,7 +29,7 @@ odd_ones zero (suc p) h = absurd (omega arith)
 odd_ones (suc w) p h =
     let twice = two-pow-succ w in
     ap odd_number (values_last w p) ∙ odd_last (values w (p / 2)) (eqb (p % 2) 1) ∙ ap (λ b. xor b (eqb (p % 2) 1)) (odd_ones w (p / 2) (omega arith))
-    ∙ odd_sum (ones (p / 2)) (ones (p / 2) % 2) (p % 2) refl (omega arith)
+    ∙ odd_sum (ones (p / 2)) (p % 2) (omega arith)
     ∙ ap (λ n. eqb (n % 2) 1) (sym (ones_step p))
 
 length_against : (vs : List ℕ) (bs : List Bool) → length bs ≡ length vs → length (against vs bs) ≡ length vs

@@ -18,7 +18,7 @@ use rules::rule::Rule;
 use sheets::rules_of::Rules;
 use sheets::sheet::Sheet;
 
-// The two bytes of a slot: the literal in two's complement, the low byte first.
+// The two bytes of a slot: the literal in two's complement, the low byte first. No `From`: both types are of other crates.
 fn slot_of(literal: Literal) -> [u8; 2]
     ensures { result ≡ low_high (literal_word literal) }
 {

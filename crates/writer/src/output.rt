@@ -4,8 +4,8 @@ ghost use Rattle.std.specs.Prelude.{◌≡◌, ◌++◌};
 // The bytes before `end` are put.
 #[derive(Drop)]
 pub(crate) struct Output<'a> {
-    pub(crate) buffer: &'a mut [u8],
-    pub(crate) end: usize,
+    buffer: &'a mut [u8],
+    end: usize,
 }
 
 impl<'a> Output<'a> {

@@ -1,15 +1,9 @@
-use Rattle.std.proofs.Common.{ap, ◌∙◌, arith}
+use Rattle.std.proofs.Common.{arith}
 use Rattle.std.proofs.lemmas.Bool.{and_parts}
 use Rattle.rules.specs.Views.{constraint}
-use Rattle.sheets.specs.Left.{rules_left}
 use Rattle.writer.specs.Writing.{rule_bytes}
 use Rattle.writer.proofs.Puts.{room_front, room_then, puts_then, puts_none}
 use Rattle.writer.proofs.output.Output.put_rules.Goals as goal
-
-pub loop-rule-init : goal.loop-rule-init
-loop-rule-init g c =
-    let start = ap (rules_left g.S.Sheet.meaning) c.into_iter-rule-iterator.ensures.into_iter_gives ∙ c.of-rule-items.ensures in
-    record { narrow = rw start c.requires.narrow; room = rw start c.requires.room; rest = rw start (λ n put. put) }
 
 pub put_rule-requires : goal.put_rule-requires
 put_rule-requires g c =
