@@ -1,5 +1,5 @@
 -- Values and levels of switches: one more set, going back, and the lowest that is unset.
-use Rattle.std.proofs.Common.{◌≡◌, ℕ, zero, suc, ◌+◌, ◌-◌, ◌<◌, ◌≤◌, Bool, true, false, cond, eqb, leb, not, List, [], ◌∷◌, length, get_or, set, take, map, replicate, is_some, Some, None, Option, sym, refl, ap, ◌∙◌, subst, arith}
+use Rattle.std.proofs.Common.{◌≡◌, ℕ, zero, suc, ◌+◌, ◌-◌, ◌<◌, ◌≤◌, Bool, true, false, cond, eqb, leb, not, List, [], ◌∷◌, length, get_or, set, take, map, is_some, Some, None, Option, sym, refl, ap, ◌∙◌, subst, arith}
 use mathlib.Core.Path.{fun_ext}
 use native.Mathlib.Decide.{ℕ_discrete}
 use lib.Dec.{eqb-suc-suc}
@@ -12,7 +12,7 @@ use lib.ListN.{length-map}
 use Rattle.std.proofs.lemmas.List.{get_or-take, length-take-le, same_lists, get_or_default, get_or-map as get_or-mapped}
 use Rattle.rules.specs.declared.literals.Literal.{Literal}
 use Rattle.rules.specs.Settings.{Within}
-use Rattle.search_theory.specs.Parts.{Part, put}
+use Rattle.search_theory.specs.Parts.{put}
 use Rattle.search_theory.specs.Tries.{lowest}
 use Rattle.search_theory.proofs.Switches.{lowest_more, lowest_first}
 use Rattle.search.specs.declared.values.Assigned.{Assigned}

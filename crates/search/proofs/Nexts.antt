@@ -1,5 +1,5 @@
 -- What is next, as the code tells it.
-use Rattle.std.proofs.Common.{◌≡◌, ℕ, true, not, is_some, Some, None, Option, Ok, Err, Result, sym, refl, ap, subst}
+use Rattle.std.proofs.Common.{◌≡◌, ℕ, true, not, is_some, Some, None, Option, Ok, Err, Result, sym, ap, subst}
 use Rattle.std.specs.Option.{option_map, ok_or, unwrap_or}
 use Rattle.std.specs.Result.{is_ok, result_err}
 use Rattle.search_theory.specs.Tries.{lowest}

@@ -35,7 +35,7 @@ fn force_alone<R: Forcing>(rules: &[R], part: &mut PartSetting) -> Result<(), De
     ensures moves { Moves (map R.Forcing.constraint rules.now) part.old part.new }
     ensures ends { Ends result (map R.Forcing.constraint rules.now) (part_of part.new) }
 {
-    let mut from = 0usize;
+    let mut from = 0;
     while let Some(next) = force_next(rules, from, part)? {
         from = next;
     }
@@ -47,7 +47,7 @@ pub(crate) fn force(system: &System, part: &mut PartSetting) -> Result<(), Dead>
     ensures moves { Moves (rules_of system.now) part.old part.new }
     ensures ends { Ends result (rules_of system.now) (part_of part.new) }
 {
-    let mut from = 0usize;
+    let mut from = 0;
     loop {
         force_alone(system.rows.as_slice(), part)?;
         match force_next(system.clauses.as_slice(), from, part)? {

@@ -1,4 +1,4 @@
-use Rattle.std.proofs.Common.{refl, arith, rules}
+use Rattle.std.proofs.Common.{arith, rules}
 use Rattle.search.specs.Moves.{rules_of}
 use Rattle.search.specs.Stacks.{stack}
 use Rattle.search.proofs.Reduction.{over_of}
@@ -17,9 +17,6 @@ put-requires c =
     let w = reached_within c.args.system.now.switches (rules_of c.args.system.now) c.args.literal (stack c.args.self.now.tries.table c.args.self.now.part.level) c.requires.reached in
     (w.0, omega arith)
 
-pub returns : goal.returns
-returns c =
-    record {
-      stands = follow_stands c.args.system.now.switches (rules_of c.args.system.now) (over_of c.args.system.now) c.args.literal c.args.self.now c.requires c.put.new.self c.force-self.new.part c.force-self.result c.put.ensures c.force-self.ensures.moves c.force-self.ensures.ends;
-      same = refl;
-    }
+pub returns-clause-stands : goal.returns-clause-stands
+returns-clause-stands c =
+    follow_stands c.args.system.now.switches (rules_of c.args.system.now) (over_of c.args.system.now) c.args.literal c.args.self.now c.requires c.put.new.self c.force-self.new.part c.force-self.result c.put.ensures c.force-self.ensures.moves c.force-self.ensures.ends

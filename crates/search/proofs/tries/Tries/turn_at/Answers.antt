@@ -3,9 +3,5 @@ use Rattle.search.specs.Stacks.{no_try, turned}
 use Rattle.search.proofs.Tables.{tops}
 use Rattle.search.proofs.tries.Tries.turn_at.Goals as goal
 
-pub returns : goal.returns
-returns c =
-    record {
-      table = search rules;
-      tops = tops c.args.self.now c.args.at (turned (get_or c.args.self.now.table c.args.at no_try)) (search rules) _ (search rules) refl;
-    }
+pub returns-clause-tops : goal.returns-clause-tops
+returns-clause-tops c = tops c.args.self.now c.args.at (turned (get_or c.args.self.now.table c.args.at no_try)) (search rules) _ (search rules) refl
