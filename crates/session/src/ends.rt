@@ -5,6 +5,7 @@ ghost use Rattle.session.specs.Ends.{values_in};
 use search::progress;
 
 // The values of the switches, switch 1 first, are the first `width` of the array: off is false, on is true. What lies behind them means nothing.
+// The size is fixed, since a settle takes no memory.
 #[derive(Clone, Copy)]
 pub struct Setting {
     pub values: [bool; 256],

@@ -10,7 +10,7 @@ pub enum Event<'a> {
     Settle(u32),
 }
 
-// Whether the rule was taken, or how the settle ended.
+// Whether the rule was taken, or how the settle ended. A take is always answered by the first, a settle by the second.
 #[derive(Clone, Copy)]
 pub enum Answer {
     Took(Result<(), Fault>),
