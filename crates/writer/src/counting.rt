@@ -46,8 +46,7 @@ fn count_records<S: Sheet>(sheet: &S) -> Result<usize, Fault>
 pub(crate) fn check_sheet<S: Sheet>(sheet: &S) -> Result<usize, Fault>
     ensures { result ≡ record_count (S.Sheet.meaning sheet.now) }
 {
-    let n = sheet.switches();
-    if n < 1 || n > 256 {
+    if !(1..=256).contains(&sheet.switches()) {
         return Err(Layer::Writer.fault(Cause::SwitchCount, 0, 0));
     }
     let records = count_records(sheet)?;
