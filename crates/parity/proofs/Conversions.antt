@@ -1,16 +1,15 @@
 -- Equations, parity rules and rows, member by member.
-use Rattle.std.proofs.Common.{◌≡◌, ℕ, suc, ◌+◌, ◌-◌, ◌<◌, ◌≤◌, Bool, true, false, cond, not, ◌&&◌, eqb, ◌⊎◌, List, [], ◌∷◌, ◌++◌, length, get_or, take, set, fold, sym, refl, ap, ◌∙◌, inl, inr, add-one, arith}
+use Rattle.std.proofs.Common.{◌≡◌, ℕ, suc, ◌+◌, ◌-◌, ◌<◌, ◌≤◌, Bool, true, false, not, ◌&&◌, eqb, ◌⊎◌, List, [], ◌∷◌, ◌++◌, length, get_or, take, set, fold, sym, refl, ap, ◌∙◌, inl, inr, arith}
 use mathlib.Core.Bool.{beq}
 use Rattle.std.proofs.Math.Bool.{and_assoc, and-true, and-false}
 use Rattle.std.proofs.lemmas.List.FromFn.{get_or-map-range_with_len}
-use Rattle.std.proofs.lemmas.List.{ext_get_or, take_more, get_or-set_same, get_or-set_other, append_assoc}
+use Rattle.std.proofs.lemmas.List.{ext_get_or, take_more, get_or-set_same, get_or-set_other}
 use Rattle.std.proofs.lemmas.Bool.{cases_eq, eq-eqb, ne_eqb}
 use Rattle.rules.specs.declared.literals.Literal.{Literal}
 use Rattle.rules.specs.Constraints.{xor}
 use Rattle.rules.specs.Lawful.{absent}
 use Rattle.parity_theory.specs.Equations.{set_of}
 use Rattle.parity_theory.specs.Recovering.{odd_negations}
-use Rattle.parity_theory.specs.Reducing.{falling}
 use Rattle.parity_theory.proofs.Members.{set_length}
 
 -- ---- the set of a rule's switches
@@ -59,20 +58,3 @@ odd_folded (l ∷ ls) odd = odd_folded ls (beq odd l.on) ∙ by odd l.on (odd_ne
     by false true c = refl
     by false false true = refl
     by false false false = refl
-
--- ---- the members of a row, from the highest down
-
-module _ (written : List ℕ) (members : List Bool) (i j : ℕ) (rest : List ℕ) (next : i ≡ j + 1) (inv : written ++ falling members i ≡ rest) where
-  step : written ++ cond (get_or members j false) (suc j ∷ falling members j) (falling members j) ≡ rest
-  step = ap (λ k. written ++ falling members k) (sym (next ∙ add-one j)) ∙ inv
-
-  pub written_more : (new : List ℕ) → new ≡ written ++ ((j + 1) ∷ []) → get_or members j false ≡ true → new ++ falling members j ≡ rest
-  written_more new more e =
-      ap (λ l. l ++ falling members j) more
-      ∙ append_assoc written ((j + 1) ∷ []) (falling members j)
-      ∙ ap (λ k. written ++ (k ∷ falling members j)) (add-one j)
-      ∙ sym (ap (λ b. written ++ cond b (suc j ∷ falling members j) (falling members j)) e)
-      ∙ step
-
-  pub skipped_more : get_or members j false ≡ false → written ++ falling members j ≡ rest
-  skipped_more e = sym (ap (λ b. written ++ cond b (suc j ∷ falling members j) (falling members j)) e) ∙ step

@@ -1,8 +1,8 @@
 -- The equations that the rules give, one rule after the other.
-use Rattle.std.proofs.Common.{◌≡◌, ℕ, Iter, ◌<◌, ◌≤◌, Bool, true, false, cond, ◌&&◌, ltb, leb, List, [], ◌∷◌, ◌++◌, map, length, get_or, take, drop, Some, None, filter, Option, option_map, sym, refl, ap, ◌∙◌, ap₂, inl, inr, arith}
+use Rattle.std.proofs.Common.{◌≡◌, ℕ, Iter, ◌<◌, ◌≤◌, Bool, true, false, cond, ◌&&◌, ltb, leb, List, [], ◌∷◌, ◌++◌, map, length, get_or, take, drop, Some, None, filter, Option, option_map, sym, refl, ap, ◌∙◌, ap₂, arith}
 use Rattle.std.specs.List.{filter_map, cons_option}
 use Rattle.std.proofs.lemmas.List.{length-map, get_or-map, map-append, map_push, take-append-drop}
-use Rattle.std.proofs.lemmas.Bool.{cases_Bool, and_parts, and_from, leb-true, le-leb, ltb-true, ltb-false, cond-true, cond-false}
+use Rattle.std.proofs.lemmas.Bool.{and_parts, and_from, leb-true, le-leb, ltb-false, cond-true}
 use denote.Param.Members.{Mut}
 use denote.Ref.{Bor}
 use Rattle.std.specs.Fn.{Called}
@@ -14,7 +14,6 @@ use Rattle.std.proofs.iter.Yields.{fronts}
 use Rattle.std.proofs.lemmas.Iterator.{YieldsList, YieldsList-from_slice}
 use Rattle.std.proofs.lemmas.Iterator.Consumers.{YieldsList-at, YieldsList-from_chain}
 use Rattle.rules.specs.declared.literals.Literal.{Literal}
-use Rattle.rules.specs.declared.kinds.Side.{Side}
 use Rattle.rules.specs.declared.rule.Rule.{Rule}
 use Rattle.rules.specs.First.{every}
 use Rattle.rules.specs.Constraints.{Constraint, clause, parity, switch_of, kind, Each}
@@ -40,12 +39,6 @@ clause_width ls h =
     let p = and_parts (leb 1 (length (map switch_of ls))) (leb (length (map switch_of ls)) 8) (and_parts (width_fits (kind (clause ls)) (length (map switch_of ls))) _ h).0 in
     omega (arith, leb-true 1 (length (map switch_of ls)) p.0, leb-true (length (map switch_of ls)) 8 p.1, length-map ls switch_of)
 
-pub parity_lawful : (ls : List Literal) (side : Side) → lawful 256 (clause ls) ≡ true → lawful 256 (parity (map switch_of ls) side) ≡ true
-parity_lawful ls side h =
-    let w = clause_width ls h in
-    let e = length-map ls switch_of in
-    and_from _ _ (and_from _ _ (le-leb 1 (length (map switch_of ls)) (omega arith)) (le-leb (length (map switch_of ls)) 16 (omega arith))) (and_parts (width_fits (kind (clause ls)) (length (map switch_of ls))) _ h).1
-
 pub recovered_when : (cs : List (List Literal)) (ls : List Literal) → lawful 256 (clause ls) ≡ true → length ls ≤ 5 → recovers cs ls ≡ true → Some (equation_of 256 ls) ≡ recovered_by cs (clause ls)
 recovered_when cs ls h few rec =
     let w = clause_width ls h in
@@ -58,18 +51,6 @@ bucket_narrow ls b e = by (ltb 5 (length ls)) refl e
     by : (t : Bool) → ltb 5 (length ls) ≡ t → Some b ≡ cond t None (Some (shared_bucket (map switch_of ls))) → (length ls ≤ 5) × (b ≡ shared_bucket (map switch_of ls))
     by true k h = let z : ◌≡◌ {A = ℕ} 0 1 = cc in absurd (omega arith)
     by false k h = (ltb-false 5 (length ls) k, cc)
-
--- one in none recovers nothing
-pub bucket_wide : (cs : List (List Literal)) (ls : List Literal) → None ≡ bucket ls → None ≡ recovered_by cs (clause ls)
-bucket_wide cs ls e = by (ltb 5 (length ls)) refl e
-  where
-    by : (t : Bool) → ltb 5 (length ls) ≡ t → None ≡ cond t None (Some (shared_bucket (map switch_of ls))) → None ≡ recovered_by cs (clause ls)
-    by true k h =
-        elim (cases_Bool (narrow ls)) [
-          | inl t ↦ absurd (omega (arith, ltb-true 5 (length ls) k, leb-true (length ls) 5 (and_parts (leb 1 (length ls)) (leb (length ls) 5) t).1))
-          | inr f ↦ sym (cond-false _ _ _ (ap (λ t. t && recovers cs ls) f))
-        ]
-    by false k h = let z : ◌≡◌ {A = ℕ} 0 1 = cc in absurd (omega arith)
 
 -- ---- all rules
 

@@ -7,7 +7,7 @@ use Rattle.parity_theory.specs.Equations.{Equation}
 use Rattle.parity_theory.specs.Recovering.{parities}
 use Rattle.parity_theory.specs.Reducing.{Row, row, highest, cleared, without, joined, reduce, as_rule, as_rules, rows}
 use Rattle.parity_theory.proofs.Lists.{each_append}
-use Rattle.parity_theory.proofs.Bounds.{rows_reduced, has_within, dependents_within}
+use Rattle.parity_theory.proofs.Bounds.{rows_reduced, dependents_within}
 use Rattle.parity_theory.proofs.Members.{tally_absent}
 use Rattle.parity_theory.proofs.Words.{parities_sized}
 use Rattle.parity_theory.proofs.Rows.{dependents_proper}
@@ -42,9 +42,6 @@ without_within r (q ∷ rs) h = (h.0, without_within r rs h.1)
 -- the highest switch of a set
 highest_is : (set : List Bool) (d : ℕ) → Some d ≡ highest set → IsHighest set d
 highest_is set d h = subst (HighestRight set) (sym h) (highest_right set)
-
-pub highest_below : (set : List Bool) (i : ℕ) → length set ≡ 256 → Some (suc i) ≡ highest set → i < 256
-highest_below set i size h = (has_within 256 set (suc i) size (highest_is set (suc i) h).0).1
 
 -- what is left of an equation, with its highest switch, is a new row
 row_joins : (rs : List Row) (e x : Equation) (d : ℕ) → ReducedRows rs → x ≡ cleared rs e → Some d ≡ highest x.members → ReducedRows (joined rs (row d x))

@@ -1,6 +1,7 @@
 -- One turn of a loop, over plain values.
-use Rattle.std.proofs.Common.{◌≡◌, ℕ, ◌+◌, ◌<◌, List, [], ◌∷◌, ◌++◌, map, length, get_or, take, drop, set, sym, ap, ◌∙◌, ap₂, add-zero, arith}
-use Rattle.std.proofs.lemmas.List.{at_drop_more, map_push, map_more, take_more_set, drop-set-lt, drop-drop, get_or-drop}
+use Rattle.std.proofs.Common.{◌≡◌, ℕ, ◌+◌, ◌<◌, List, [], ◌∷◌, ◌++◌, map, length, get_or, take, drop, set, ◌≤◌, sym, ap, ◌∙◌, ap₂, add-zero, arith}
+use Rattle.std.proofs.lemmas.List.{at_drop_more, map_push, map_more, take_more_set, drop-set-lt, drop-drop, get_or-drop, length_push, length-take-le, take-take, get_or-take}
+use Rattle.std.proofs.Math.Seq.{take-append_seam, get_or-append_seam}
 
 -- what a fold over the rest of a list makes of its state does not change when it takes one more element
 pub fold_more : {X S Y : Type 0} (F : List X → S → Y) (xs : List X) (i : ℕ) (x : X) (s t : S) → i < length xs → x ≡ get_or xs i x → F (x ∷ drop (i + 1) xs) s ≡ F (drop (i + 1) xs) t → F (drop (i + 1) xs) t ≡ F (drop i xs) s
@@ -19,3 +20,26 @@ module _ {X Y : Type 0} (f : X → Y) (g : Y → Y) (xs ys : List X) (i : ℕ) (
 
   pub unchanged_more : drop i ys ≡ drop i xs → drop (i + 1) (set ys i new) ≡ drop (i + 1) xs
   unchanged_more after = drop-set-lt (i + 1) ys i new (omega arith) ∙ sym (drop-drop 1 i ys) ∙ ap (drop 1) after ∙ drop-drop 1 i xs
+
+-- ---- from the last element to the first
+
+-- the elements before x, where x is the last of the first n
+pub record Last {X : Type 0} (xs before : List X) (n : ℕ) (x : X) : Type 0 where
+  pub next : n ≡ length before + 1
+  pub here : length before < length xs
+  pub front : before ≡ take (length before) xs
+  pub is : x ≡ get_or xs (length before) x
+
+pub last_of : {X : Type 0} (xs whole before : List X) (n : ℕ) (x : X) → whole ≡ before ++ (x ∷ []) → whole ≡ take n xs → n ≤ length xs → Last xs before n x
+last_of xs whole before n x e f l =
+    let size : length (before ++ (x ∷ [])) ≡ length before + 1 = length_push before x in
+    let long : length (take n xs) ≡ n = length-take-le n xs l in
+    let next : n ≡ length before + 1 = omega (arith, ap length (sym e ∙ f)) in
+    let m = length before in
+    let parts : before ++ (x ∷ []) ≡ take (m + 1) xs = sym e ∙ f ∙ ap (λ k. take k xs) next in
+    record {
+      next = next;
+      here = omega arith;
+      front = sym (take-append_seam before (x ∷ [])) ∙ ap (take m) parts ∙ take-take m (m + 1) xs (omega arith);
+      is = sym (get_or-append_seam before x [] x) ∙ ap (λ l. get_or l m x) parts ∙ get_or-take (m + 1) xs m x (omega arith);
+    }

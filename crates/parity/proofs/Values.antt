@@ -3,7 +3,7 @@ use Rattle.std.proofs.Common.{◌≡◌, ℕ, zero, suc, ◌+◌, ◌*◌, ◌^�
 use denote.Ref.{Bor}
 use mir.Val.{bool_byte}
 use Rattle.std.proofs.lemmas.List.{reverse-append, get_or-reverse}
-use Rattle.std.proofs.lemmas.Bool.{cases_Bool, cond-true, cond-false, eq-eqb, ne_eqb}
+use Rattle.std.proofs.lemmas.Bool.{cases_Bool, cond-true, cond-false, eq-eqb}
 use Rattle.rules.specs.declared.literals.Literal.{Literal}
 use Rattle.rules.specs.Constraints.{clause}
 use Rattle.rules.specs.Rows.{bit}
@@ -41,9 +41,6 @@ module _ (ls : List Literal) (vs : List ℕ) where
   -- what is passed, from the last on, and the switch before it
   pub place_more : (passed : List ℕ) (v p : ℕ) (b : Bool) → values_place ls (reverse passed) ≡ Some p → Some b ≡ breaking_value ls v → values_place ls (reverse (passed ++ (v ∷ []))) ≡ Some (2 * p + bit b)
   place_more passed v p b h e = ap (values_place ls) (reverse-append passed (v ∷ [])) ∙ ap₂ with_value (sym e) h
-
-  pub place_other : (length ls ≡ length vs → ⊥) → None ≡ breaking_place vs (clause ls)
-  place_other ne = sym (cond-false _ _ _ (ne_eqb (length ls) (length vs) ne))
 
   pub place_found : (o : Option ℕ) → length ls ≡ length vs → values_place ls vs ≡ o → o ≡ breaking_place vs (clause ls)
   place_found o e h = sym (cond-true _ _ _ (eq-eqb (length ls) (length vs) e) ∙ h)

@@ -33,6 +33,7 @@ impl From<&Solved> for Row {
     fn from(solved: &Solved) -> Row {
         let mut row = Row::on_none(Side::from(solved.equation.odd));
         row.push(solved.index as u16 + 1);
+        // The index is what is written, so the loop goes over the indices.
         for i in (0..solved.index).rev() {
             if solved.equation.members[i] {
                 row.push(i as u16 + 1);

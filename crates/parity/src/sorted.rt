@@ -55,10 +55,8 @@ impl<'a> Sorted<'a> {
     {
         let mut first = [None; 256];
         let mut next = [None; 2112];
-        for i in (0..rules.len()).rev() {
-            let Rule::Clause(clause) = &rules[i] else {
-                continue
-            };
+        for (i, rule) in rules.iter().enumerate().rev() {
+            let Rule::Clause(clause) = rule else { continue };
             let Some(bucket) = bucket_of(clause.literals()) else {
                 continue
             };
