@@ -1,5 +1,5 @@
 -- How many clauses a parity rule is written as, and how many records a rule takes.
-use Rattle.std.proofs.Common.{◌≡◌, ℕ, suc, ◌+◌, ◌*◌, ◌/◌, ◌%◌, ◌^◌, ◌<◌, ◌≤◌, Bool, true, false, not, List, [], ◌∷◌, map, length, Some, None, Ok, Err, IfSome, filter, Option, sym, refl, ap, ◌∙◌, arith, length-append, pow_mono}
+use Rattle.std.proofs.Common.{◌≡◌, ℕ, suc, ◌+◌, ◌*◌, ◌/◌, ◌%◌, ◌^◌, ◌<◌, ◌≤◌, Bool, true, false, not, List, [], ◌∷◌, map, length, Some, None, Ok, Err, IfSome, filter, Option, Result, sym, refl, ap, ◌∙◌, arith, length-append, pow_mono}
 use native.Mathlib.Nat.{two-pow-succ}
 use lib.ListN.{length-map}
 use Rattle.std.specs.Option.{ok_or}
@@ -60,14 +60,21 @@ parity_count vs side w wide some narrow =
 pub parity_wide : (vs : List ℕ) (side : Side) → 5 < length vs → None ≡ records_for (parity vs side)
 parity_wide vs side wide = sym (cond-true _ _ _ (lt-ltb 5 (length vs) wide))
 
--- what is told of a rule
-pub counted : (o : Option ℕ) (k : ℕ) (f : Fault) → Ok k ≡ ok_or o f → IfSome o (λ n. n ≤ 16) → (Some k ≡ o) × (k ≤ 16)
-counted None k f h few = cc
-counted (Some n) k f h few = let same : k ≡ n = cc in (ap Some same, omega arith)
+-- what is told of a rule, with the fault that stands for no number
+module _ (o : Option ℕ) (f : Fault) (r : Result ℕ Fault) (told : r ≡ ok_or o f) where
+  pub counted : (k : ℕ) → r ≡ Ok k → IfSome o (λ n. n ≤ 16) → (Some k ≡ o) × (k ≤ 16)
+  counted k is few = by o told few
+    where
+      by : (p : Option ℕ) → r ≡ ok_or p f → IfSome p (λ n. n ≤ 16) → (Some k ≡ p) × (k ≤ 16)
+      by None h few = cc
+      by (Some n) h few = let same : k ≡ n = cc in (ap Some same, omega arith)
 
-pub refused : (o : Option ℕ) (e f : Fault) → Err e ≡ ok_or o f → (None ≡ o) × (e ≡ f)
-refused None e f h = (refl, cc)
-refused (Some n) e f h = cc
+  pub refused : (e : Fault) → r ≡ Err e → (None ≡ o) × (e ≡ f)
+  refused e is = by o told
+    where
+      by : (p : Option ℕ) → r ≡ ok_or p f → (None ≡ p) × (e ≡ f)
+      by None h = (refl, cc)
+      by (Some n) h = cc
 
 -- the first of the rules that are left
 module _ (i : ℕ) (r : Constraint) (rules : List Constraint) where

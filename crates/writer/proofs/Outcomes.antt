@@ -34,15 +34,17 @@ length_records (c ∷ cs) = omega (arith, length_records cs, length_record c, le
 length_file : (n : ℕ) (cs : List (List Literal)) → length (file_bytes n cs) ≡ 8 + 18 * length cs
 length_file n cs = omega (arith, length_records cs, length-append (flat_map record_bytes cs) (end_bytes (length cs)))
 
--- head, records and end, put one behind the other
-module _ (m : Meaning) (k : ℕ) (counted : k ≡ length (clauses_of m.rules)) (o a : Output) (empty : o.end ≡ 0) (room : length (first_year_bytes m) ≤ length o.buffer.now) (head : Puts (head_bytes m.switches) o a) where
-  parts : head_bytes m.switches ++ (flat_map rule_bytes m.rules ++ end_bytes k) ≡ first_year_bytes m
-  parts = ap (λ rs. head_bytes m.switches ++ (rs ++ end_bytes k)) (sym (flat_map_twice expanded record_bytes m.rules)) ∙ ap (λ n. head_bytes m.switches ++ (flat_map record_bytes (clauses_of m.rules) ++ end_bytes n)) counted
+-- head, records and end, put one behind the other into the buffer old, by a cursor that is o at first
+module _ (m : Meaning) (k : ℕ) (counted : k ≡ length (clauses_of m.rules)) (old : List ℕ) (room : length (first_year_bytes m) ≤ length old) (o a : Output) (same : o.buffer.now ≡ old) (empty : o.end ≡ 0) (n : ℕ) (is : n ≡ m.switches) (head : Puts (head_bytes n) o a) where
+  parts : head_bytes n ++ (flat_map rule_bytes m.rules ++ end_bytes k) ≡ first_year_bytes m
+  parts =
+      ap (λ rs. head_bytes n ++ (rs ++ end_bytes k)) (sym (flat_map_twice expanded record_bytes m.rules))
+      ∙ (λ t. head_bytes (is t) ++ (flat_map record_bytes (clauses_of m.rules) ++ end_bytes (counted t)))
 
   behind_head : HasRoom (flat_map rule_bytes m.rules ++ end_bytes k) a
   behind_head =
-      let all : HasRoom (head_bytes m.switches ++ (flat_map rule_bytes m.rules ++ end_bytes k)) o = omega (arith, ap length parts, room, empty) in
-      room_then (head_bytes m.switches) (flat_map rule_bytes m.rules ++ end_bytes k) o a all head
+      let all : HasRoom (head_bytes n ++ (flat_map rule_bytes m.rules ++ end_bytes k)) o = omega (arith, ap length parts, ap length same, room, empty) in
+      room_then (head_bytes n) (flat_map rule_bytes m.rules ++ end_bytes k) o a all head
 
   pub records_room : HasRoom (flat_map rule_bytes m.rules) a
   records_room = room_front (flat_map rule_bytes m.rules) (end_bytes k) a behind_head
@@ -51,13 +53,11 @@ module _ (m : Meaning) (k : ℕ) (counted : k ≡ length (clauses_of m.rules)) (
     pub end_room : HasRoom (end_bytes k) b
     end_room = room_then (flat_map rule_bytes m.rules) (end_bytes k) a b behind_head records
 
-    pub file_put : (c : Output) → Puts (end_bytes k) b c → c.buffer.now ≡ over_front (first_year_bytes m) o.buffer.now
+    pub file_put : (c : Output) → Puts (end_bytes k) b c → c.buffer.now ≡ over_front (first_year_bytes m) old
     file_put c end =
         let behind = puts_then (flat_map rule_bytes m.rules) (end_bytes k) a b c (omega (arith, behind_head)) records end in
-        let whole = puts_then (head_bytes m.switches) (flat_map rule_bytes m.rules ++ end_bytes k) o a c (omega (arith, room)) head behind in
-        whole.over
-        ∙ ap (λ n. over_at o.buffer.now n (head_bytes m.switches ++ (flat_map rule_bytes m.rules ++ end_bytes k))) empty
-        ∙ ap (over_at o.buffer.now 0) parts ∙ over_all o.buffer.now (first_year_bytes m)
+        let whole = puts_then (head_bytes n) (flat_map rule_bytes m.rules ++ end_bytes k) o a c (omega (arith, empty)) head behind in
+        whole.over ∙ (λ t. over_at (same t) (empty t) (parts t)) ∙ over_all old (first_year_bytes m)
 
 -- what a count tells of the refusals
 accepted : {X F : Type 0} (o : Option F) (x k : X) → Ok k ≡ verdict o x → (o ≡ None) × (k ≡ x)

@@ -18,7 +18,7 @@ records_for-requires g c =
 pub returns-in_err-records : goal.returns-in_err-records
 returns-in_err-records g c =
     let p = err_from_is_err_and c.from_residual.result c.from_residual.ensures.1 in
-    let wide = refused c.records_for.result c.in_err-records.field-0.0 c.fault-too_wide.result (sym c.in_err-records.was ∙ c.ok_or.ensures.value) in
+    let wide = refused c.records_for.result c.fault-too_wide.result c.ok_or.result c.ok_or.ensures.value c.in_err-records.field-0.0 c.in_err-records.was in
     let found = sym c.loop-i.invariant.narrow ∙ ap (first_wide c.loop-i.i-iterator.count) c.in-Some.ensures.steps.0 ∙ wide_found c.loop-i.i-iterator.count (constraint c.in-Some.rule) (rules_left g.S.Sheet.meaning c.next.new.self.iter) (wide.0 ∙ c.records_for.ensures.count) in
     rw (p.1, p.2, found, wide.1, c.fault-too_wide.ensures, c.in-Some.ensures.steps.1)
 
@@ -27,7 +27,7 @@ loop-i-preserved g c =
     let left = c.in-Some.ensures.steps.0 in
     let next = c.in-Some.ensures.steps.2 in
     let sound = rw left at c.loop-i.invariant.sound in
-    let told = counted c.records_for.result c.in_ok-records.field-0 c.fault-too_wide.result (sym c.in_ok-records.was ∙ c.ok_or.ensures.value) c.records_for.ensures.few in
+    let told = counted c.records_for.result c.fault-too_wide.result c.ok_or.result c.ok_or.ensures.value c.in_ok-records.field-0 c.in_ok-records.was c.records_for.ensures.few in
     let more = count_more c.loop-i.i-iterator.count (constraint c.in-Some.rule) (rules_left g.S.Sheet.meaning c.next.new.self.iter) c.in_ok-records.field-0 (told.0 ∙ c.records_for.ensures.count) in
     record {
       sound = (and_parts _ _ sound).1;
