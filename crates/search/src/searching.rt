@@ -15,7 +15,7 @@ use crate::state::State;
 use crate::system::System;
 use rules::literals::Literal;
 
-// A try that is due: a switch at off, or the try at an index turned to on.
+// A try that is due: a switch at off, or the try at an index turned to on. They are two variants, since only a turn undoes what was set.
 #[derive(Clone, Copy)]
 pub enum Due {
     Add(u16),
@@ -110,7 +110,7 @@ impl Search {
         ensures shown { result ≡ shown self.now switch }
         ensures found { (s : List Bool) → course_of self.now ≡ found s → Within self.now.system.switches switch → result ≡ Some (setting s switch) }
     {
-        if switch == 0 || switch > 256 {
+        if !(1..=256).contains(&switch) {
             return None;
         }
         self.state.part.get(switch)
