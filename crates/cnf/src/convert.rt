@@ -8,7 +8,7 @@ use std::alloc::Global;
 use text::errors::TextError;
 use text::refusals::write_refusal;
 
-// The text of the file at the front of the buffer; its length is told, and the buffer beyond is left.
+// The text of the file at the front of the buffer; its length is told, and the buffer beyond is left. A fault is no error here: its line is the text.
 pub fn convert(heap: Global, input: &[u8], out: &mut [u8]) -> Result<usize, TextError>
     ensures { WrittenOr (converted input.now) out.old out.new result }
 {

@@ -32,7 +32,7 @@ pub(crate) fn new_search(heap: Global) -> Result<Search, AllocError>
     }))
 }
 
-// A search over nothing that takes no memory.
+// A search over nothing that takes no memory, and so cannot fail.
 fn empty_search(heap: Global) -> Search {
     Search::new(System {
         switches: 0,
@@ -55,7 +55,7 @@ fn fill_clauses(clauses: &mut Vec<Clause>, rules: &[Rule])
     }
 }
 
-// Leaves the given rows.
+// Leaves the given rows, in the memory that was taken at opening.
 fn fill_rows(rows: &mut Vec<Row>, given: &[Row])
     requires { length given.now ≤ vec_capacity rows.old }
     ensures rows { rows.new.items ≡ given.now }

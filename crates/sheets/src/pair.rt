@@ -60,6 +60,7 @@ impl<F: Sheet, G: Sheet> Sheet for Pair<F, G> {
 
     ghost lawful = { λ s. paired_lawful (F.Sheet.meaning s.first) (G.Sheet.meaning s.second) (F.Sheet.lawful s.first) (G.Sheet.lawful s.second) };
 
+    // Two numbers and no option: `if` says it most plainly.
     fn switches(&self) -> u16 {
         if self.is_short() {
             self.first.switches().max(self.second.switches())

@@ -44,7 +44,7 @@ impl Output<'_> {
         self.put(&empty[2 * filled.len()..]);
     }
 
-    // A parity rule, as one record for each pattern that breaks it, the patterns rising.
+    // A parity rule, as one record for each pattern that breaks it, the patterns rising. They are numbers, and index nothing.
     fn put_parity(&mut self, rule: &Parity)
         requires narrow { length (switches_of rule.now) ≤ 5 }
         requires room { HasRoom (rule_bytes (parity (switches_of rule.now) rule.now.side)) self.old }

@@ -8,7 +8,7 @@ use rules::clauses::Clause;
 use rules::kinds::Side;
 use rules::literals::Literal;
 
-// Whether switch j of `width` is on in the pattern.
+// Whether switch j of `width` is on in the pattern: one bit of it.
 fn is_on(width: usize, pattern: usize, j: usize) -> bool
     requires { (width ≤ 5) × (j < width) }
     ensures { result ≡ value width pattern j }
