@@ -73,9 +73,6 @@ passed_on (Err d) h = refl
 
 -- moves join
 module _ (rs : List Constraint) where
-  pub moves_none : (s : PartSetting) → Moves rs s s
-  moves_none s = record { lies = lies_none rs (part_of s); level = refl; below = λ i h. refl; top = λ e. e }
-
   pub moves_then : (s t u : PartSetting) → Moves rs s t → Moves rs t u → Moves rs s u
   moves_then s t u a b =
       record {

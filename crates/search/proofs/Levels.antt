@@ -27,10 +27,6 @@ set_at (y ∷ xs) (suc v) zero x d h = grind arith
 set_at (y ∷ xs) (suc v) (suc w) x d h = let ih = set_at xs v w x d (omega arith) in rw eqb-suc-suc ih
 
 -- a switch and its index
-pub assigned_at : (vs : List (Option Assigned)) (v : ℕ) → 1 ≤ v → get_or vs (v - 1) None ≡ assigned vs v
-assigned_at vs zero h = absurd (omega arith)
-assigned_at vs (suc v) h = let e : suc v - 1 ≡ v = omega arith in ap (λ i. get_or vs i None) e
-
 index_is : (v w : ℕ) → 1 ≤ v → eqb v (suc w) ≡ eqb (v - 1) w
 index_is zero w h = absurd (omega arith)
 index_is (suc v) w h = let e : v ≡ suc v - 1 = omega arith in rw eqb-suc-suc (ap (λ x. eqb x w) e)

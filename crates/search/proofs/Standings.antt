@@ -200,6 +200,3 @@ module _ (n : ℕ) (rules : List Constraint) (s : State) (st : Standing n rules 
       ready_at l (back k s.part) e u tops
       (λ i g. upto_back s.part k i (omega arith) ∙ st.below i (omega arith)) (part_back s.part k ∙ st.below k h)
       (upto_back s.part k k (omega arith) ∙ sym (part_back s.part k))
-
-  pub is_made : (l : Literal) (k : ℕ) → step n rules (stack_of s.tries) ≡ due (l ∷ stack s.tries.table k) → (u t : Tries) → Tops l k s.tries u → t ≡ u → step n rules (stack_of s.tries) ≡ due (stack_of t)
-  is_made l k e u t tops same = e ∙ ap due (sym tops.latest) ∙ ap (λ x. due (stack_of x)) (sym same)

@@ -1,39 +1,24 @@
 -- Lemmas for the laws of rules that force: passes over rules.
-use Rattle.std.specs.Prelude.{◌≡◌, ℕ, zero, suc, ◌+◌, ◌<◌, ◌≤◌, Bool, true, false, List, [], ◌∷◌, map, length, drop, Some, None, Option, Ok, Err, Result, slice_index_or}
+use Rattle.std.specs.Prelude.{◌≡◌, ℕ, zero, suc, ◌+◌, ◌<◌, ◌≤◌, Bool, true, false, List, [], ◌∷◌, map, length, drop, Some, None, Option, Ok, Result, slice_index_or}
 use Rattle.std.proofs.Common.{sym, ap, ◌∙◌, arith}
 use Rattle.std.proofs.lemmas.List.{at_drop_more, at_drop_all, drop-map}
 use Rattle.rules.specs.declared.literals.Literal.{Literal}
 use Rattle.rules.specs.Constraints.{Constraint, Each}
 use Rattle.search_theory.specs.Parts.{Part}
-use Rattle.search_theory.specs.Forcing.{says, dead}
 use Rattle.search_theory.proofs.Rules.{says_unset, says_alone}
 use Rattle.search.specs.declared.looking.Dead.{Dead}
 use Rattle.search.specs.Looks.{look_of, look_at, ForcesOne, pass_at, pass_from}
 
--- what a look tells, and what tells a look
+-- what a look tells
 pub look_forces : (d : Bool) (o : Option Literal) (l : Literal) → Ok (Some l) ≡ look_of d o → o ≡ Some l
 look_forces true o l e = absurd (cc)
 look_forces false o l e = cc
-
-pub is_dead : (p : Part) (r : Constraint) → dead p r ≡ true → Err (record {}) ≡ look_at p r
-is_dead p r h = sym (ap (λ d. look_of d (says p r)) h)
-
-pub is_said : (p : Part) (r : Constraint) (o : Option Literal) → dead p r ≡ false → says p r ≡ o → Ok o ≡ look_at p r
-is_said p r o h k = sym (ap (λ d. look_of d (says p r)) h ∙ ap Ok k)
-
-pub is_quiet : (p : Part) (r : Constraint) → (dead p r ≡ false) × (says p r ≡ None) → Ok None ≡ look_at p r
-is_quiet p r h = is_said p r None h.0 h.1
 
 -- the element at an index
 pub each_at : {X Y : Type 0} (P : Y → Type 0) (f : X → Y) (xs : List X) (i : ℕ) (d : X) → i < length xs → Each P (map f xs) → P (f (slice_index_or xs i d))
 each_at P f [] i d h e = absurd (omega arith)
 each_at P f (x ∷ xs) zero d h e = e.0
 each_at P f (x ∷ xs) (suc i) d h e = each_at P f xs i d (omega arith) e.1
-
-pub each_in : {X : Type 0} (P : X → Type 0) (xs : List X) (i : ℕ) (d : X) → i < length xs → Each P xs → P (slice_index_or xs i d)
-each_in P [] i d h e = absurd (omega arith)
-each_in P (x ∷ xs) zero d h e = e.0
-each_in P (x ∷ xs) (suc i) d h e = each_in P xs i d (omega arith) e.1
 
 -- a pass at an index
 module _ {R : Type 0} (f : R → Constraint) (xs : List R) (i : ℕ) where
