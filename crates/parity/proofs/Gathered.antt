@@ -1,7 +1,7 @@
 -- The equations that the rules give, one rule after the other.
-use Rattle.std.proofs.Common.{◌≡◌, ℕ, Iter, ◌<◌, ◌≤◌, Bool, true, false, cond, ◌&&◌, ltb, leb, List, [], ◌∷◌, ◌++◌, map, length, get_or, take, drop, Some, None, filter, Option, option_map, sym, refl, ap, ◌∙◌, ap₂, arith}
+use Rattle.std.proofs.Common.{◌≡◌, ℕ, Iter, ◌≤◌, Bool, true, false, cond, ◌&&◌, ltb, leb, List, [], ◌∷◌, ◌++◌, map, length, take, drop, Some, None, filter, Option, option_map, sym, refl, ap, ◌∙◌, ap₂, arith}
 use Rattle.std.specs.List.{filter_map, cons_option}
-use Rattle.std.proofs.lemmas.List.{length-map, get_or-map, map-append, map_push, take-append-drop}
+use Rattle.std.proofs.lemmas.List.{length-map, map-append, map_push, take-append-drop}
 use Rattle.std.proofs.lemmas.Bool.{and_parts, and_from, leb-true, le-leb, ltb-false, cond-true}
 use denote.Param.Members.{Mut}
 use denote.Ref.{Bor}
@@ -19,7 +19,6 @@ use Rattle.rules.specs.First.{every}
 use Rattle.rules.specs.Constraints.{Constraint, clause, parity, switch_of, kind, Each}
 use Rattle.rules.specs.Lawful.{width_fits, lawful}
 use Rattle.rules.specs.Views.{constraint}
-use Rattle.rules.proofs.Lawfuls.{every_at}
 use Rattle.parity_theory.specs.Equations as theory
 use Rattle.parity_theory.specs.Equations.{equation}
 use Rattle.parity_theory.specs.Recovering.{clauses, named, narrow, recovers, equation_of, parities}
@@ -148,10 +147,3 @@ contradicted all front n e h =
     ∙ reduce_append (map equation_in (take n all)) (map equation_in (drop n all)) (Some [])
     ∙ ap (λ r. reduce_from r (map equation_in (drop n all))) (ap (λ l. reduce (map equation_in l)) (sym e) ∙ h)
     ∙ none_stays (map equation_in (drop n all))
-
--- the rule at an index of a lawful list
-pub rule_lawful : (rules : List Rule) (i : ℕ) (r : Rule) → every (lawful 256) (map constraint rules) ≡ true → i < length rules → r ≡ get_or rules i r → lawful 256 (constraint r) ≡ true
-rule_lawful rules i r law here is =
-    ap (λ q. lawful 256 (constraint q)) is
-    ∙ ap (lawful 256) (sym (get_or-map constraint rules i r (constraint r) here))
-    ∙ every_at (lawful 256) (map constraint rules) (constraint r) law i (omega (arith, length-map rules constraint))

@@ -1,12 +1,10 @@
 -- What a reduction tells is right.
-use Rattle.std.proofs.Common.{◌≡◌, ℕ, ◌+◌, ◌<◌, ◌≤◌, true, List, [], ◌∷◌, ◌++◌, map, length, get_or, take, Some, Ok, Err, is_ok, Option, Result, true≢false, sym, refl, ap, ◌∙◌, ap₂, arith}
-use Rattle.std.proofs.lemmas.List.{length-map, map_push, map_more}
+use Rattle.std.proofs.Common.{◌≡◌, ℕ, ◌≤◌, true, List, [], ◌∷◌, map, length, Some, Ok, Err, is_ok, Option, Result, true≢false, sym, refl, ap, ◌∙◌, arith}
+use Rattle.std.proofs.lemmas.List.{length-map}
 use Rattle.std.proofs.lemmas.Bool.{and_parts, and_from}
-use Rattle.rules.specs.declared.parities.ParityRule.{ParityRule}
 use Rattle.rules.specs.First.{every}
 use Rattle.rules.specs.Constraints.{Constraint, kind, switches}
 use Rattle.rules.specs.Lawful.{inside, different, width_fits, lawful}
-use Rattle.rules.specs.Views.{row_constraint}
 use Rattle.parity_theory.specs.Recovering.{parities}
 use Rattle.parity_theory.specs.Reducing.{reduce, as_rule, as_rules, rows, left_free}
 use Rattle.parity_theory.specs.Claims.{LawfulRules}
@@ -27,14 +25,6 @@ module _ (n m : ℕ) (l : n ≤ m) where
       let q = and_parts (width_fits (kind r) (length (switches r))) _ p.0 in
       let s = and_parts (every (inside n) (switches r)) (different (switches r)) q.1 in
       and_from _ _ (and_from _ _ q.0 (and_from _ _ (inside_wider n m l (switches r) s.0) s.1)) (lawful_wider rules p.1)
-
--- ---- the rows that are written
-
-pub written_more : (out : List (ParityRule 256)) (solved : List Solved) (i : ℕ) (s : Solved) (r : ParityRule 256) → i < length solved → s ≡ get_or solved i s → row_constraint r ≡ as_rule (solved_row s) → map row_constraint out ≡ map as_rule (map solved_row (take i solved)) → map row_constraint (out ++ (r ∷ [])) ≡ map as_rule (map solved_row (take (i + 1) solved))
-written_more out solved i s r here is e inv =
-    map_push row_constraint out r
-    ∙ ap₂ (λ l x. l ++ (x ∷ [])) inv (e ∙ ap (λ q. as_rule (solved_row q)) is)
-    ∙ sym (ap (map as_rule) (map_more solved_row solved i s here) ∙ map_push as_rule (map solved_row (take i solved)) (solved_row (get_or solved i s)))
 
 module _ (n : ℕ) (few : n ≤ 256) (rules : List Constraint) (law : LawfulRules n rules) {T E : Type 0} where
   pub told_rows : (o : Result T E) (solved : List Solved) (out : List Constraint) → unless_contradiction o (map solved_row solved) ≡ reduce (parities 256 rules) → (is_ok o ≡ true → out ≡ map as_rule (map solved_row solved)) → unless_contradiction o out ≡ rows n rules

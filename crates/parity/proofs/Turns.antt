@@ -1,11 +1,7 @@
 -- One turn of a loop, over plain values.
 use Rattle.std.proofs.Common.{◌≡◌, ℕ, ◌+◌, ◌<◌, List, [], ◌∷◌, ◌++◌, map, length, get_or, take, drop, set, ◌≤◌, sym, ap, ◌∙◌, ap₂, add-zero, arith}
-use Rattle.std.proofs.lemmas.List.{at_drop_more, map_push, map_more, take_more_set, drop-set-lt, drop-drop, get_or-drop, length_push, length-take-le, take-take, get_or-take}
+use Rattle.std.proofs.lemmas.List.{map_push, map_more, take_more_set, drop-set-lt, drop-drop, get_or-drop, length_push, length-take-le, take-take, get_or-take}
 use Rattle.std.proofs.Math.Seq.{take-append_seam, get_or-append_seam}
-
--- what a fold over the rest of a list makes of its state does not change when it takes one more element
-pub fold_more : {X S Y : Type 0} (F : List X → S → Y) (xs : List X) (i : ℕ) (x : X) (s t : S) → i < length xs → x ≡ get_or xs i x → F (x ∷ drop (i + 1) xs) s ≡ F (drop (i + 1) xs) t → F (drop (i + 1) xs) t ≡ F (drop i xs) s
-fold_more F xs i x s t l is step = sym step ∙ ap (λ y. F (y ∷ drop (i + 1) xs) s) is ∙ sym (at_drop_more (λ ys. F ys s) xs i x l)
 
 module _ {X Y : Type 0} (f : X → Y) (g : Y → Y) (xs ys : List X) (i : ℕ) (x new : X) (here : i < length ys) (size : length ys ≡ length xs) where
   -- a list of which the elements before i are changed, and the one at i is changed now

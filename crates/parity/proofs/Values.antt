@@ -1,8 +1,8 @@
 -- The values that break a clause, switch by switch, as they are looked for.
-use Rattle.std.proofs.Common.{◌≡◌, ℕ, zero, suc, ◌+◌, ◌*◌, ◌^◌, ◌<◌, ◌≤◌, Bool, true, false, cond, not, eqb, List, [], ◌∷◌, length, get_or, Some, None, Option, option_map, find, ◌++◌, ◌-◌, reverse, sym, refl, ap, ◌∙◌, ap₂, inl, inr, arith, pow_mono}
+use Rattle.std.proofs.Common.{◌≡◌, ℕ, zero, suc, ◌^◌, ◌<◌, ◌≤◌, Bool, true, false, cond, not, eqb, List, [], ◌∷◌, length, get_or, Some, None, Option, option_map, find, ◌-◌, reverse, sym, refl, ap, ◌∙◌, inl, inr, arith, pow_mono}
 use denote.Ref.{Bor}
 use mir.Val.{bool_byte}
-use Rattle.std.proofs.lemmas.List.{reverse-append, get_or-reverse}
+use Rattle.std.proofs.lemmas.List.{get_or-reverse}
 use Rattle.std.proofs.lemmas.Bool.{cases_Bool, cond-true, cond-false, eq-eqb}
 use Rattle.rules.specs.declared.literals.Literal.{Literal}
 use Rattle.rules.specs.Constraints.{clause}
@@ -38,10 +38,6 @@ values_absent ls (v ∷ vs) (suc i) l h = ap (with_value (breaking_value ls v)) 
 
 -- the place of values, from the last switch to the first
 module _ (ls : List Literal) (vs : List ℕ) where
-  -- what is passed, from the last on, and the switch before it
-  pub place_more : (passed : List ℕ) (v p : ℕ) (b : Bool) → values_place ls (reverse passed) ≡ Some p → Some b ≡ breaking_value ls v → values_place ls (reverse (passed ++ (v ∷ []))) ≡ Some (2 * p + bit b)
-  place_more passed v p b h e = ap (values_place ls) (reverse-append passed (v ∷ [])) ∙ ap₂ with_value (sym e) h
-
   pub place_found : (o : Option ℕ) → length ls ≡ length vs → values_place ls vs ≡ o → o ≡ breaking_place vs (clause ls)
   place_found o e h = sym (cond-true _ _ _ (eq-eqb (length ls) (length vs) e) ∙ h)
 

@@ -1,4 +1,5 @@
 // Which settings of a rule's switches break a clause on exactly these switches.
+// The switches are a plain slice of at most five: a type for so short a fact would have no other use.
 ghost use Rattle.std.specs.Prelude.{◌≡◌, ℕ, ◌^◌, ◌<◌, ◌≤◌, true, false, length, Decides, slice_index_or};
 ghost use Rattle.rules.specs.Constraints.{clause};
 ghost use Rattle.rules.specs.Views.{constraint};

@@ -1,11 +1,11 @@
-use Rattle.std.proofs.Common.{◌≡◌, ℕ, ◌+◌, ◌*◌, ◌<◌, ◌≤◌, List, map, length, get_or, reverse, Some, None, sym, ap, ◌∙◌, arith, rules}
+use Rattle.std.proofs.Common.{◌≡◌, ℕ, ◌<◌, ◌≤◌, List, map, length, get_or, reverse, Some, None, ap, ◌∙◌, arith, rules}
 use denote.Ref.{Bor}
-use Rattle.std.proofs.lemmas.List.{length-map, length-reverse, map_push, reverse-reverse, get_or_read}
+use Rattle.std.proofs.lemmas.List.{length-map, length-reverse, get_or_read}
 use Rattle.std.proofs.lemmas.Iterator.Adapters.{YieldsList-from_rev_slice}
-use Rattle.std.proofs.lemmas.Iterator.Consumers.{YieldsList-turn, YieldsList-end}
+use Rattle.std.proofs.lemmas.Iterator.Consumers.{YieldsList-turn}
 use Rattle.rules.specs.declared.literals.Literal.{Literal}
 use Rattle.parity.specs.Places.{breaking_value, values_place}
-use Rattle.parity.proofs.Values.{place_more, place_found, place_absent, small_place, byte_bit}
+use Rattle.parity.proofs.Values.{place_found, place_absent, small_place, byte_bit}
 use Rattle.parity.proofs.Places.{bit_small}
 use Rattle.parity.proofs.marking.breaking_place.Goals as goal
 
@@ -34,21 +34,3 @@ returns-in_err-breaking_value c =
     let lacks : None ≡ breaking_value ls c.in-Some.switch.now = search rules in
     let none : c.from_residual.result ≡ None = search rules in
     none ∙ place_found ls vs None c.if-literals-switches.false (place_absent ls vs i (omega (arith, turn.0, length-reverse vs)) (lacks ∙ ap (breaking_value ls) read))
-
-pub loop-switch-preserved : goal.loop-switch-preserved
-loop-switch-preserved c =
-    let ls = c.args.literals.now in
-    let passed = c.loop-switch.yielded in
-    let on = c.in_ok-breaking_value.field-0 in
-    let has : Some on ≡ breaking_value ls c.in-Some.switch.now = search rules in
-    ap (λ l. values_place ls (reverse l)) (map_push (λ (v : Bor ℕ). v.now) passed c.in-Some.switch)
-    ∙ place_more ls c.args.switches.now (map (λ (v : Bor ℕ). v.now) passed) c.in-Some.switch.now c.loop-switch.place on c.loop-switch.invariant has
-    ∙ ap (λ b. Some (2 * c.loop-switch.place + b)) (sym (c.from.ensures ∙ byte_bit on))
-
-pub returns : goal.returns
-returns c =
-    let ls = c.args.literals.now in
-    let vs = c.args.switches.now in
-    let all = YieldsList-end (YieldsList-from_rev_slice vs (cc)) c.loop-switch.yielded _ c.loop-switch.yielded_by _ _ c.in-None.is c.next.ensures.steps in
-    place_found ls vs (Some c.loop-switch.place) c.if-literals-switches.false
-    (ap (values_place ls) (sym (ap reverse all.0 ∙ reverse-reverse vs)) ∙ c.loop-switch.invariant)

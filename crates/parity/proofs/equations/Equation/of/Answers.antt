@@ -18,16 +18,6 @@ within vs i h l =
     let p = and_parts _ _ (every_at (inside 256) vs 0 h i l) in
     (leb-true 1 (get_or vs i 0) p.0, leb-true (get_or vs i 0) 256 p.1)
 
-pub overflow_sub-members : goal.overflow_sub-members
-overflow_sub-members c =
-    let ok = within c.switches-switch-items.result.now c.loop-switch.switch-index (ap (every (inside 256)) c.switches-switch-items.ensures ∙ c.requires) c.loop-switch-test.true in
-    omega (arith, ok.0)
-
-pub bounds-members-from : goal.bounds-members-from
-bounds-members-from c =
-    let ok = within c.switches-switch-items.result.now c.loop-switch.switch-index (ap (every (inside 256)) c.switches-switch-items.ensures ∙ c.requires) c.loop-switch-test.true in
-    omega (arith, ok.0, ok.1)
-
 pub loop-switch-preserved : goal.loop-switch-preserved
 loop-switch-preserved c =
     let vs = c.switches-switch-items.result.now in
