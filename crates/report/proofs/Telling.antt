@@ -1,7 +1,6 @@
 -- What a session tells, as the report has it.
 use Rattle.std.proofs.Common.{◌≡◌, ℕ, length, Ok, Err, Option, Result, refl, ap, ◌∙◌, arith}
 use Rattle.rules.specs.declared.faults.Fault.{Fault}
-use Rattle.text.specs.Refusals.{refused_line}
 use Rattle.sheets.specs.Meaning.{Meaning, check_of, or_blank}
 use Rattle.parity_theory.specs.Reducing.{freedom}
 use Rattle.session_theory.specs.Session.{Session, End, opened, size, rules, end_at, settled_course, settled_tries, freedom_told, settled, Happens}
@@ -20,10 +19,6 @@ pub told_lines : (m : Meaning) (s t u : Session) (n k : ℕ) (f : Option ℕ) (e
 told_lines m s t u n k f e tries op a b free went =
     let d = settled_is s u report_budget e tries went in
     (λ i. report_lines (a i) (b i) (free_is s t f free i) (d.0 i) (d.1 i)) ∙ ap (told_by m) op
-
-pub refused_report : (x : Result Meaning Fault) (f : Fault) → Err f ≡ check_of x → refused_line f ≡ report_of x
-refused_report (Ok m) f h = let z : ◌≡◌ {A = ℕ} 0 1 = cc in absurd (omega arith)
-refused_report (Err g) f h = let same : f ≡ g = cc in ap refused_line same
 
 pub accepted_report : (x : Result Meaning Fault) (u : Unit {0}) → Ok u ≡ check_of x → sheet_report (or_blank x) ≡ report_of x
 accepted_report (Ok m) u h = refl

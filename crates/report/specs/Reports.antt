@@ -1,12 +1,9 @@
 -- What is reported of a sheet file.
-use Rattle.std.specs.Prelude.{◌≡◌, ℕ, List, length, Ok, Err, string_bytes, Result, String}
-use Rattle.std.specs.declared.alloc.Global.{Global}
+use Rattle.std.specs.Prelude.{ℕ, List, length, Ok, Err, Result}
 use Rattle.rules.specs.declared.faults.Fault.{Fault}
 use Rattle.sheets.specs.Meaning.{Meaning}
 use Rattle.files.specs.Any.{any_file}
 use Rattle.text.specs.Refusals.{refused_line}
-use Rattle.text.specs.declared.errors.TextError.{TextError}
-use Rattle.text.specs.declared.errors.TextError.TheVariants.{Refused, Memory}
 use Rattle.parity_theory.specs.Reducing.{freedom}
 use Rattle.session_theory.specs.Session.{Session, opened, size, rules, end_at, settled_course, settled_tries}
 use Rattle.report.specs.Lines.{report_lines}
@@ -32,9 +29,3 @@ report_of (Err f) = refused_line f
 -- the report on the sheet of a file, or the line that tells why the file is refused
 abbrev pub file_report : List ℕ → List ℕ
 file_report bs = report_of (any_file bs)
-
--- the text of a file without fault, or the fault whose line is reported
-abbrev pub Reported : List ℕ → Result (String Global) TextError → Type 0
-Reported bs (Ok s) = string_bytes s ≡ file_report bs
-Reported bs (Err (Refused f)) = refused_line f ≡ file_report bs
-Reported bs (Err Memory) = Unit {0}

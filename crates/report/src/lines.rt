@@ -1,79 +1,87 @@
 // The two lines of a report.
-ghost use Rattle.std.specs.Prelude.{◌≡◌, IfOk, string_bytes};
+ghost use Rattle.std.specs.Prelude.{Some};
 ghost use Rattle.std.specs.List.{flat_map};
-ghost use Rattle.session.specs.Ends.{values_in, end_in};
-ghost use Rattle.report.specs.Lines.{freedom_text, value_text, head_line, end_line, report_lines};
+ghost use Rattle.session.specs.Ends.{end_in};
+ghost use Rattle.report.specs.Lines.{freedom_text, value_text, end_line, report_lines};
 
-use session::ends::{End, Setting, Settled};
-use std::alloc::{AllocError, Global};
+use session::ends::{End, Settled};
+use std::fmt;
+use text::each::write_each;
 
-pub fn freedom_text(heap: Global, freedom: Option<usize>) -> Result<String, AllocError>
-    ensures { IfOk result (λ s. string_bytes s ≡ freedom_text freedom) }
-{
-    match freedom {
-        Some(f) => format!(in heap; "{f}"),
-        None => String::from_str(heap, "-"),
-    }
-}
+// The freedom: a number, or - where it is absent.
+#[derive(Clone, Copy)]
+pub struct Freedom(pub Option<usize>);
 
-fn head_line(heap: Global, n: u16, m: usize, freedom: Option<usize>) -> Result<String, AllocError>
-    ensures { IfOk result (λ s. string_bytes s ≡ head_line n m freedom) }
-{
-    let f = freedom_text(heap, freedom)?;
-    let f = f.as_str();
-    format!(in heap; "V {n} R {m} F {f}\n")
-}
+impl fmt::Display for Freedom {
+    ghost output = { λ f. Some (freedom_text f.0) };
 
-fn value_text(on: bool) -> &'static str
-    ensures { result.now ≡ value_text on }
-{
-    if on { "1" } else { "0" }
-}
-
-fn values_text(heap: Global, values: &[bool]) -> Result<String, AllocError>
-    ensures { IfOk result (λ s. string_bytes s ≡ flat_map value_text values.now) }
-{
-    let mut text = String::new(heap);
-    for value in values {
-        text.push_str(value_text(*value))?;
-    }
-    Ok(text)
-}
-
-fn setting_text(heap: Global, setting: &Setting) -> Result<String, AllocError>
-    ensures { IfOk result (λ s. string_bytes s ≡ flat_map value_text (values_in setting.now)) }
-{
-    let width = setting.width.min(256);
-    values_text(heap, &setting.values[0..width])
-}
-
-pub fn end_line(heap: Global, settled: &Settled) -> Result<String, AllocError>
-    ensures { IfOk result (λ s. string_bytes s ≡ end_line (end_in settled.now.end) settled.now.tries) }
-{
-    let tries = settled.tries;
-    match settled.end {
-        End::Spent => format!(in heap; "spent {tries}\n"),
-        End::None => format!(in heap; "none {tries}\n"),
-        End::Found(setting) => {
-            let values = setting_text(heap, &setting)?;
-            let values = values.as_str();
-            format!(in heap; "found {tries} {values}\n")
+    fn fmt<W: fmt::Write>(&self, f: &mut fmt::Formatter<W>) -> fmt::Result {
+        match self.0 {
+            Some(freedom) => write!(f, "{freedom}"),
+            None => f.write_str("-"),
         }
     }
 }
 
-// Switches, rules and freedom; then the end, the tries and, if found, the setting.
-pub(crate) fn report_lines(
-    heap: Global,
-    n: u16,
-    m: usize,
-    freedom: Option<usize>,
-    settled: &Settled,
-) -> Result<String, AllocError>
-    ensures { IfOk result (λ s. string_bytes s ≡ report_lines n m freedom (end_in settled.now.end) settled.now.tries) }
-{
-    let mut text = head_line(heap, n, m, freedom)?;
-    let last = end_line(heap, settled)?;
-    text.push_str(last.as_str())?;
-    Ok(text)
+// A value: 1 for on, 0 for off.
+#[derive(Clone, Copy)]
+struct Value(bool);
+
+impl fmt::Display for Value {
+    ghost output = { λ v. Some (value_text v.0) };
+
+    fn fmt<W: fmt::Write>(&self, f: &mut fmt::Formatter<W>) -> fmt::Result {
+        f.write_str(if self.0 { "1" } else { "0" })
+    }
+}
+
+// Values, switch 1 first.
+#[derive(Clone, Copy)]
+struct Values<'a>(&'a [bool]);
+
+impl fmt::Display for Values<'_> {
+    ghost output = { λ vs. Some (flat_map value_text vs.0.now) };
+
+    fn fmt<W: fmt::Write>(&self, f: &mut fmt::Formatter<W>) -> fmt::Result {
+        write_each(f, self.0.iter().map(|on| Value(*on)))
+    }
+}
+
+// How a settle ended, and its tries; then the values that it found.
+#[derive(Clone, Copy)]
+pub struct Ended<'a>(pub &'a Settled);
+
+impl fmt::Display for Ended<'_> {
+    ghost output = { λ e. Some (end_line (end_in e.0.now.end) e.0.now.tries) };
+
+    fn fmt<W: fmt::Write>(&self, f: &mut fmt::Formatter<W>) -> fmt::Result {
+        let tries = self.0.tries;
+        match &self.0.end {
+            End::Spent => writeln!(f, "spent {tries}"),
+            End::None => writeln!(f, "none {tries}"),
+            End::Found(setting) => writeln!(f, "found {tries} {}", Values(setting.values())),
+        }
+    }
+}
+
+// The number of switches and of rules, and the freedom; then how the settle ended.
+#[derive(Clone, Copy)]
+pub(crate) struct Report<'a> {
+    pub(crate) switches: u16,
+    pub(crate) rules: usize,
+    pub(crate) freedom: Option<usize>,
+    pub(crate) settled: &'a Settled,
+}
+
+impl fmt::Display for Report<'_> {
+    ghost output = { λ r. Some
+        (report_lines r.switches r.rules r.freedom (end_in r.settled.now.end) r.settled.now.tries) };
+
+    fn fmt<W: fmt::Write>(&self, f: &mut fmt::Formatter<W>) -> fmt::Result {
+        let n = self.switches;
+        let m = self.rules;
+        let freedom = Freedom(self.freedom);
+        let ended = Ended(self.settled);
+        write!(f, "V {n} R {m} F {freedom}\n{ended}")
+    }
 }

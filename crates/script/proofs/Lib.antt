@@ -1,4 +1,3 @@
 pub mod Fits
 pub mod Walk
-pub mod Joining
-pub mod Whole
+pub mod Pairs

@@ -1,5 +1,5 @@
 -- The walk over the calls of a script.
-use Rattle.std.proofs.Common.{◌≡◌, ℕ, suc, ◌+◌, ◌-◌, ◌<◌, ◌≤◌, true, false, eqb, List, [], ◌∷◌, ◌++◌, length, drop, Some, None, Err, Option, sym, refl, ap, ◌∙◌, subst, arith}
+use Rattle.std.proofs.Common.{◌≡◌, ℕ, suc, ◌+◌, ◌-◌, ◌<◌, ◌≤◌, true, false, eqb, List, [], ◌∷◌, ◌++◌, length, Some, None, Err, Option, sym, refl, ap, ◌∙◌, subst, arith}
 use Rattle.std.specs.Option.{option_map}
 use Rattle.std.proofs.lemmas.List.{append-nil, append_assoc}
 use Rattle.std.proofs.lemmas.Bool.{cond-true, cond-false}
@@ -23,7 +23,7 @@ joined : (before : List Asked) (c : Asked) (o : Option (List Asked)) → option_
 joined before c None = refl
 joined before c (Some cs) = ap Some (sym (append_assoc before (c ∷ []) cs))
 
-one_more : (k : ℕ) (bs : List ℕ) → calls_in (suc k) bs ≡ call_then bs (calls_in k) (call_at bs)
+one_more : (k : ℕ) (bs : List ℕ) → calls_in (suc k) bs ≡ call_then (calls_in k) (call_at bs)
 unfolding calls_in
 one_more k bs = refl
 
@@ -36,21 +36,20 @@ unfolding calls_in
 past_end bs h = cond-false _ _ _ h
 
 module _ {n : ℕ} {bs : List ℕ} {i : ℕ} {rest : List ℕ} {before : List Asked} (far : Underway n bs i rest before) where
-  next : i < n → calls_in n bs ≡ option_map (λ later. before ++ later) (call_then rest (calls_in (n - (i + 1))) (call_at rest))
+  next : i < n → calls_in n bs ≡ option_map (λ later. before ++ later) (call_then (calls_in (n - (i + 1))) (call_at rest))
   next few =
       let more : n - i ≡ suc (n - (i + 1)) = omega arith in
       far.whole ∙ ap (λ k. option_map (λ later. before ++ later) (calls_in k rest)) more ∙ ap (option_map (λ later. before ++ later)) (one_more (n - (i + 1)) rest)
 
-  pub onward : (c : AskedAt) (after : List ℕ) → i < n → call_at rest ≡ Some c → after ≡ drop c.size rest → Underway n bs (i + 1) after (before ++ c.call ∷ [])
-  onward c after few is cut =
+  pub onward : (c : AskedAt) → i < n → call_at rest ≡ Some c → Underway n bs (i + 1) c.rest (before ++ c.call ∷ [])
+  onward c few is =
       record {
         whole =
-            next few ∙ ap (λ o. option_map (λ later. before ++ later) (call_then rest (calls_in (n - (i + 1))) o)) is ∙ joined before c.call _
-            ∙ ap (λ l. option_map (λ later. (before ++ c.call ∷ []) ++ later) (calls_in (n - (i + 1)) l)) (sym cut);
+            next few ∙ ap (λ o. option_map (λ later. before ++ later) (call_then (calls_in (n - (i + 1))) o)) is ∙ joined before c.call _;
       }
 
   broken : i < n → call_at rest ≡ None → calls_in n bs ≡ None
-  broken few is = next few ∙ ap (λ o. option_map (λ later. before ++ later) (call_then rest (calls_in (n - (i + 1))) o)) is
+  broken few is = next few ∙ ap (λ o. option_map (λ later. before ++ later) (call_then (calls_in (n - (i + 1))) o)) is
 
   pub failed : (e : ScriptError) → i < n → RecordRead (call_at rest) (Err e) → CallsRead (calls_in n bs) (Err e)
   failed Form few is = broken few is

@@ -22,19 +22,19 @@ asked call.Freedom = freedom
 asked (call.Settle b) = settle b
 asked (call.Copy k) = copy k
 
--- a call, and the number of bytes of its record
+-- a call, and the bytes behind its record
 pub record AskedAt : Type 0 where
   pub call : Asked
-  pub size : ℕ
+  pub rest : List ℕ
 
-abbrev pub sized : ℕ → Asked → AskedAt
-sized k c = record { call = c; size = k }
-
--- a take of w entries, which the bytes es begin with; they stand `first` bytes behind the beginning of the record
-abbrev pub take_at : RawKind → ℕ → ℕ → List ℕ → Option AskedAt
-take_at kind first w es = cond (nat_le (2 * w) (length es)) (Some (sized (first + 2 * w) (take kind (entries_in w es)))) None
+abbrev pub before : List ℕ → Asked → AskedAt
+before bs c = record { call = c; rest = bs }
 
 -- THE CALLS, by the bytes behind their mark
+
+-- a take of w entries, which the bytes es begin with
+abbrev pub take_at : RawKind → ℕ → List ℕ → Option AskedAt
+take_at kind w es = cond (nat_le (2 * w) (length es)) (Some (before (drop (2 * w) es) (take kind (entries_in w es)))) None
 
 -- the record, where there are k bytes at least
 abbrev pub where_long : ℕ → List ℕ → Option AskedAt → Option AskedAt
@@ -42,26 +42,26 @@ where_long k bs r = cond (nat_le k (length bs)) r None
 
 -- a number of entries, and the entries
 abbrev pub clause_at : List ℕ → Option AskedAt
-clause_at bs = where_long 1 bs (take_at Clause 2 (slice_index bs 0) (drop 1 bs))
+clause_at bs = where_long 1 bs (take_at Clause (slice_index bs 0) (drop 1 bs))
 
 -- a side, a number of entries, and the entries
 abbrev pub parity_at : List ℕ → Option AskedAt
-parity_at bs = where_long 2 bs (take_at (Parity (slice_index bs 0)) 3 (slice_index bs 1) (drop 2 bs))
+parity_at bs = where_long 2 bs (take_at (Parity (slice_index bs 0)) (slice_index bs 1) (drop 2 bs))
 
 -- a budget of four bytes
 abbrev pub settle_at : List ℕ → Option AskedAt
-settle_at bs = where_long 4 bs (Some (sized 5 (settle (word_at bs 0 + 65536 * word_at bs 2))))
+settle_at bs = where_long 4 bs (Some (before (drop 4 bs) (settle (word_at bs 0 + 65536 * word_at bs 2))))
 
 -- a length of two bytes
 abbrev pub copy_at : List ℕ → Option AskedAt
-copy_at bs = where_long 2 bs (Some (sized 3 (copy (word_at bs 0))))
+copy_at bs = where_long 2 bs (Some (before (drop 2 bs) (copy (word_at bs 0))))
 
 -- the marks: C (43) and P (50) of takes, F (46) of freedom, S (53) of settle, B (42) of copy
 abbrev pub marked_call : ℕ → List ℕ → Option AskedAt
 marked_call mark bs =
     cond (mark == 67) (clause_at bs)
     (cond (mark == 80) (parity_at bs)
-    (cond (mark == 70) (Some (sized 1 freedom))
+    (cond (mark == 70) (Some (before bs freedom))
     (cond (mark == 83) (settle_at bs)
     (cond (mark == 66) (copy_at bs) None))))
 
@@ -69,12 +69,12 @@ marked_call mark bs =
 abbrev pub call_at : List ℕ → Option AskedAt
 call_at bs = where_long 1 bs (marked_call (slice_index bs 0) (drop 1 bs))
 
--- the first call, before those that follow its record
-abbrev pub call_then : List ℕ → (List ℕ → Option (List Asked)) → Option AskedAt → Option (List Asked)
-call_then bs later None = None
-call_then bs later (Some c) = option_map (λ cs. c.call ∷ cs) (later (drop c.size bs))
+-- the first call, before those that are asked for behind its record
+abbrev pub call_then : (List ℕ → Option (List Asked)) → Option AskedAt → Option (List Asked)
+call_then later None = None
+call_then later (Some c) = option_map (λ cs. c.call ∷ cs) (later c.rest)
 
 -- so many calls, and nothing behind them
 unfoldable pub calls_in : ℕ → List ℕ → Option (List Asked)
 calls_in zero bs = cond (length bs == 0) (Some []) None
-calls_in (suc k) bs = call_then bs (calls_in k) (call_at bs)
+calls_in (suc k) bs = call_then (calls_in k) (call_at bs)

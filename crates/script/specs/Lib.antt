@@ -1,5 +1,5 @@
 pub mod Heads
 pub mod Asked
-pub mod Records
 pub mod Lines
 pub mod Scripts
+pub mod Records

@@ -42,3 +42,7 @@ reply_text (Copied r buffer) = copied_lines r (vec_items buffer)
 -- the number of switches and of rules
 abbrev pub sheet_line : ℕ → ℕ → List ℕ
 sheet_line n m = codes "sheet " ++ (decimal n ++ (codes " " ++ (decimal m ++ codes "\n")))
+
+-- the refusals among the verdicts, the size of a sheet and the replies
+abbrev pub answer_text : List Verdict → ℕ → ℕ → List Reply → List ℕ
+answer_text verdicts n m replies = (flat_map refusal_text verdicts ++ sheet_line n m) ++ flat_map reply_text replies

@@ -1,6 +1,5 @@
 -- A script: a sheet and calls, and the text that answers it.
-use Rattle.std.specs.Prelude.{◌≡◌, ℕ, ◌+◌, cond, List, [], ◌∷◌, ◌++◌, map, length, take, drop, Some, None, codes, Option, nat_le}
-use Rattle.std.specs.List.{flat_map}
+use Rattle.std.specs.Prelude.{◌≡◌, ℕ, ◌+◌, cond, List, [], ◌∷◌, map, length, take, drop, Some, None, codes, Option, nat_le}
 use Rattle.std.specs.Option.{option_map}
 use Rattle.sheets.specs.Meaning.{Meaning, check_of, or_blank}
 use Rattle.sheets.specs.Piles.{placing_check, placed, pair_check, paired}
@@ -13,7 +12,7 @@ use Rattle.script.specs.declared.head.Shape.TheVariants.{Plain, Placed, Paired, 
 use Rattle.script.specs.declared.head.Head.{Head}
 use Rattle.script.specs.Heads.{head_at}
 use Rattle.script.specs.Asked.{Asked, asked, calls_in}
-use Rattle.script.specs.Lines.{Verdict, refusal_text, reply_text, sheet_line}
+use Rattle.script.specs.Lines.{Verdict, answer_text}
 
 -- THE SHEET, made of the files a and b
 
@@ -78,7 +77,7 @@ script_in bs = after_head bs (head_at bs)
 pub record Told (verdicts : List Verdict) (m : Meaning) (cs : List Call) (text : List ℕ) : Type 0 where
   pub replies : List Reply
   pub performed : Performed m cs replies
-  pub says : text ≡ (flat_map refusal_text verdicts ++ sheet_line m.switches (length m.rules)) ++ flat_map reply_text replies
+  pub says : text ≡ answer_text verdicts m.switches (length m.rules) replies
 
 abbrev pub ToldOf : Shape → ℕ → List ℕ → List ℕ → List Call → List ℕ → Type 0
 ToldOf shape k a b cs text = Told (verdicts_on shape k a b) (sheet_in shape k a b) cs text

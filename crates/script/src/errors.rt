@@ -10,6 +10,7 @@ pub enum ScriptError {
     Memory,
 }
 
+// Written by hand, since the clauses say which error a `?` makes.
 impl From<AllocError> for ScriptError {
     ghost from_gives = { λ _ r. r ≡ Memory };
 

@@ -1,14 +1,32 @@
 // The head of a script.
 ghost use Rattle.std.specs.Prelude.{◌≡◌};
-ghost use Rattle.script.specs.Heads.{shape_of, head_at};
+ghost use Rattle.script.specs.Heads.{shape_or_form, head_at};
+
+use crate::errors::ScriptError;
 
 // What the session is opened over: the first file's sheet; that sheet placed; a pair of this placing and the second file's sheet; or a pair of that pair and the first file's sheet.
-#[derive(Clone, Copy)]
+#[derive(Clone, Copy, PartialEq, Eq, Debug)]
 pub enum Shape {
     Plain,
     Placed,
     Paired,
     Stacked,
+}
+
+impl TryFrom<u8> for Shape {
+    type Error = ScriptError;
+
+    ghost try_from_gives = { λ byte r. r ≡ shape_or_form byte };
+
+    fn try_from(byte: u8) -> Result<Shape, ScriptError> {
+        match byte {
+            0 => Ok(Shape::Plain),
+            1 => Ok(Shape::Placed),
+            2 => Ok(Shape::Paired),
+            3 => Ok(Shape::Stacked),
+            _ => Err(ScriptError::Form),
+        }
+    }
 }
 
 // The number that a placing adds, the lengths of the two files, and the number of calls.
@@ -21,18 +39,6 @@ pub struct Head {
     pub calls: u16,
 }
 
-fn shape_of(byte: u8) -> Option<Shape>
-    ensures { result ≡ shape_of byte }
-{
-    match byte {
-        0 => Some(Shape::Plain),
-        1 => Some(Shape::Placed),
-        2 => Some(Shape::Paired),
-        3 => Some(Shape::Stacked),
-        _ => None,
-    }
-}
-
 // The head at the front of the bytes; absent where they do not begin with one.
 pub fn read_head(bytes: &[u8]) -> Option<Head>
     ensures { result ≡ head_at bytes.now }
@@ -40,11 +46,8 @@ pub fn read_head(bytes: &[u8]) -> Option<Head>
     let [b'S', b'C', shape, k0, k1, a0, a1, b0, b1, c0, c1, ..] = bytes else {
         return None;
     };
-    let Some(shape) = shape_of(*shape) else {
-        return None;
-    };
     Some(Head {
-        shape,
+        shape: Shape::try_from(*shape).ok()?,
         by: u16::from_le_bytes([*k0, *k1]),
         first: u16::from_le_bytes([*a0, *a1]),
         second: u16::from_le_bytes([*b0, *b1]),

@@ -1,113 +1,141 @@
 // The lines that answer a script.
-ghost use Rattle.std.specs.Prelude.{◌≡◌, IfOk, string_bytes};
+ghost use Rattle.std.specs.Prelude.{Some};
 ghost use Rattle.std.specs.List.{flat_map};
-ghost use Rattle.script.specs.Lines.{verdict_line, refusal_text, free_line, byte_text, copied_lines, reply_text, sheet_line};
+ghost use Rattle.script.specs.Lines.{verdict_line, refusal_text, byte_text, reply_text, answer_text};
 
-use report::lines::{end_line, freedom_text};
+use report::lines::{Ended, Freedom};
 use rules::faults::Fault;
 use session::call::Reply;
-use std::alloc::{AllocError, Global};
-use text::refusals::refused_line;
+use std::fmt;
+use text::each::write_each;
 
 // The word on a line, or the line that tells the refusal.
-fn verdict_line(heap: Global, word: &str, verdict: Result<(), Fault>) -> Result<String, AllocError>
-    ensures { IfOk result (λ s. string_bytes s ≡ verdict_line word.now verdict) }
-{
-    match verdict {
-        Ok(_accepted) => format!(in heap; "{word}\n"),
-        Err(fault) => refused_line(heap, fault),
+#[derive(Clone, Copy)]
+struct VerdictLine<'a> {
+    word: &'a str,
+    verdict: Result<(), Fault>,
+}
+
+impl fmt::Display for VerdictLine<'_> {
+    ghost output = { λ v. Some (verdict_line v.word.now v.verdict) };
+
+    fn fmt<W: fmt::Write>(&self, f: &mut fmt::Formatter<W>) -> fmt::Result {
+        match self.verdict {
+            Ok(()) => writeln!(f, "{}", self.word),
+            Err(fault) => writeln!(f, "{fault}"),
+        }
     }
 }
 
 // The line that tells the refusal, or nothing.
-fn refusal_text(heap: Global, verdict: Result<(), Fault>) -> Result<String, AllocError>
-    ensures { IfOk result (λ s. string_bytes s ≡ refusal_text verdict) }
-{
-    match verdict {
-        Ok(_accepted) => Ok(String::new(heap)),
-        Err(fault) => refused_line(heap, fault),
+#[derive(Clone, Copy)]
+struct Refusal(Result<(), Fault>);
+
+impl fmt::Display for Refusal {
+    ghost output = { λ r. Some (refusal_text r.0) };
+
+    fn fmt<W: fmt::Write>(&self, f: &mut fmt::Formatter<W>) -> fmt::Result {
+        match self.0 {
+            Ok(()) => Ok(()),
+            Err(fault) => writeln!(f, "{fault}"),
+        }
     }
 }
 
-pub(crate) fn refusals_text(
-    heap: Global,
-    verdicts: &[Result<(), Fault>],
-) -> Result<String, AllocError>
-    ensures { IfOk result (λ s. string_bytes s ≡ flat_map refusal_text verdicts.now) }
-{
-    let mut text = String::new(heap);
-    for verdict in verdicts {
-        let line = refusal_text(heap, *verdict)?;
-        text.push_str(line.as_str())?;
-    }
-    Ok(text)
-}
+// The refusals among verdicts.
+#[derive(Clone, Copy)]
+struct Refusals<'a>(&'a [Result<(), Fault>]);
 
-fn free_line(heap: Global, freedom: Option<usize>) -> Result<String, AllocError>
-    ensures { IfOk result (λ s. string_bytes s ≡ free_line freedom) }
-{
-    let f = freedom_text(heap, freedom)?;
-    let f = f.as_str();
-    format!(in heap; "free {f}\n")
-}
+impl fmt::Display for Refusals<'_> {
+    ghost output = { λ rs. Some (flat_map refusal_text rs.0.now) };
 
-fn byte_text(heap: Global, byte: u8) -> Result<String, AllocError>
-    ensures { IfOk result (λ s. string_bytes s ≡ byte_text byte) }
-{
-    format!(in heap; " {byte}")
-}
-
-// The values of the bytes, each behind a space.
-fn bytes_text(heap: Global, bytes: &[u8]) -> Result<String, AllocError>
-    ensures { IfOk result (λ s. string_bytes s ≡ flat_map byte_text bytes.now) }
-{
-    let mut text = String::new(heap);
-    for byte in bytes {
-        let value = byte_text(heap, *byte)?;
-        text.push_str(value.as_str())?;
-    }
-    Ok(text)
-}
-
-// The verdict on a copy, then the bytes of its buffer.
-fn copied_lines(
-    heap: Global,
-    verdict: Result<(), Fault>,
-    buffer: &[u8],
-) -> Result<String, AllocError>
-    ensures { IfOk result (λ s. string_bytes s ≡ copied_lines verdict buffer.now) }
-{
-    let verdict = verdict_line(heap, "copied", verdict)?;
-    let values = bytes_text(heap, buffer)?;
-    let verdict = verdict.as_str();
-    let values = values.as_str();
-    format!(in heap; "{verdict}buffer{values}\n")
-}
-
-fn reply_text(heap: Global, reply: &Reply) -> Result<String, AllocError>
-    ensures { IfOk result (λ s. string_bytes s ≡ reply_text reply.now) }
-{
-    match reply {
-        Reply::Took(verdict) => verdict_line(heap, "took", *verdict),
-        Reply::Free(freedom) => free_line(heap, *freedom),
-        Reply::Settled(settled) => end_line(heap, settled),
-        Reply::Copied(verdict, buffer) => copied_lines(heap, *verdict, buffer.as_slice()),
+    fn fmt<W: fmt::Write>(&self, f: &mut fmt::Formatter<W>) -> fmt::Result {
+        write_each(f, self.0.iter().map(|verdict| Refusal(*verdict)))
     }
 }
 
-pub(crate) fn replies_text(heap: Global, replies: &[Reply]) -> Result<String, AllocError>
-    ensures { IfOk result (λ s. string_bytes s ≡ flat_map reply_text replies.now) }
-{
-    let mut text = String::new(heap);
-    for reply in replies {
-        let line = reply_text(heap, reply)?;
-        text.push_str(line.as_str())?;
+// A byte, behind a space.
+#[derive(Clone, Copy)]
+struct Spaced(u8);
+
+impl fmt::Display for Spaced {
+    ghost output = { λ b. Some (byte_text b.0) };
+
+    fn fmt<W: fmt::Write>(&self, f: &mut fmt::Formatter<W>) -> fmt::Result {
+        write!(f, " {}", self.0)
     }
-    Ok(text)
 }
 
-pub(crate) fn sheet_line(heap: Global, n: u16, m: usize) -> Result<String, AllocError>
-    ensures { IfOk result (λ s. string_bytes s ≡ sheet_line n m) }
-{
-    format!(in heap; "sheet {n} {m}\n")
+// Bytes, each behind a space.
+#[derive(Clone, Copy)]
+struct Bytes<'a>(&'a [u8]);
+
+impl fmt::Display for Bytes<'_> {
+    ghost output = { λ bs. Some (flat_map byte_text bs.0.now) };
+
+    fn fmt<W: fmt::Write>(&self, f: &mut fmt::Formatter<W>) -> fmt::Result {
+        write_each(f, self.0.iter().map(|byte| Spaced(*byte)))
+    }
+}
+
+// What tells a reply; the reply to a copy tells the bytes of its buffer too.
+#[derive(Clone, Copy)]
+struct ReplyLines<'a>(&'a Reply);
+
+impl fmt::Display for ReplyLines<'_> {
+    ghost output = { λ r. Some (reply_text r.0.now) };
+
+    fn fmt<W: fmt::Write>(&self, f: &mut fmt::Formatter<W>) -> fmt::Result {
+        match self.0 {
+            Reply::Took(verdict) => {
+                let verdict = VerdictLine {
+                    word: "took",
+                    verdict: *verdict,
+                };
+                write!(f, "{verdict}")
+            }
+            Reply::Free(freedom) => writeln!(f, "free {}", Freedom(*freedom)),
+            Reply::Settled(settled) => write!(f, "{}", Ended(settled)),
+            Reply::Copied(verdict, buffer) => {
+                let verdict = VerdictLine {
+                    word: "copied",
+                    verdict: *verdict,
+                };
+                writeln!(f, "{verdict}buffer{}", Bytes(buffer.as_slice()))
+            }
+        }
+    }
+}
+
+// Replies in their order.
+#[derive(Clone, Copy)]
+struct Replies<'a>(&'a [Reply]);
+
+impl fmt::Display for Replies<'_> {
+    ghost output = { λ rs. Some (flat_map reply_text rs.0.now) };
+
+    fn fmt<W: fmt::Write>(&self, f: &mut fmt::Formatter<W>) -> fmt::Result {
+        write_each(f, self.0.iter().map(ReplyLines))
+    }
+}
+
+// The refusals among the verdicts on the makings of a sheet, its number of switches and of rules, and the replies.
+#[derive(Clone, Copy)]
+pub(crate) struct Answer<'a> {
+    pub(crate) verdicts: &'a [Result<(), Fault>],
+    pub(crate) switches: u16,
+    pub(crate) rules: usize,
+    pub(crate) replies: &'a [Reply],
+}
+
+impl fmt::Display for Answer<'_> {
+    ghost output = { λ a. Some (answer_text a.verdicts.now a.switches a.rules a.replies.now) };
+
+    fn fmt<W: fmt::Write>(&self, f: &mut fmt::Formatter<W>) -> fmt::Result {
+        let refusals = Refusals(self.verdicts);
+        let n = self.switches;
+        let m = self.rules;
+        let replies = Replies(self.replies);
+        write!(f, "{refusals}sheet {n} {m}\n{replies}")
+    }
 }

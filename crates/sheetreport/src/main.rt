@@ -1,10 +1,8 @@
 // Reads a sheet file from standard input, settles it, and writes the report or the line that tells its refusal.
 #![tactic(auto)]
 
-use anyhow::anyhow;
+use program::answer_input;
 use report::reporting::write_report;
-use std::io::{Read, Write};
-use text::errors::TextError;
 
 // One byte more than the longest file has.
 const MOST_INPUT: u64 = 36_873;
@@ -12,22 +10,6 @@ const MOST_INPUT: u64 = 36_873;
 // Longer than any report: two lines, with at most 256 values.
 const MOST_TEXT: usize = 1_000;
 
-fn run(rt: &HostRuntime) -> anyhow::Result<()> {
-    let heap = rt.alloc();
-    let mut input = Vec::new(heap);
-    rt.stdin().take(MOST_INPUT).read_to_end(&mut input)?;
-    let mut out = vec![in heap; 0u8; MOST_TEXT]?;
-    match write_report(heap, input.as_slice(), out.as_mut_slice()) {
-        Ok(length) => {
-            out.truncate(length);
-            rt.stdout().write_all(out.as_slice())?;
-            Ok(())
-        }
-        Err(TextError::Memory) => Err(anyhow!("want of memory")),
-        Err(TextError::Refused(_fault)) => Err(anyhow!("the buffer for the text is too short")),
-    }
-}
-
 fn main(rt: HostRuntime) -> anyhow::Result<()> {
-    run(&rt)
+    answer_input(&rt, MOST_INPUT, MOST_TEXT, write_report)
 }

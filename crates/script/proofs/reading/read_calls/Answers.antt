@@ -1,9 +1,8 @@
 use Rattle.std.proofs.Common.{map, vec_items, sym, ap, ◌∙◌, rules}
-use Rattle.std.proofs.lemmas.List.{take_rest, map_push}
+use Rattle.std.proofs.lemmas.List.{map_push}
 use Rattle.std.proofs.lemmas.Result.{err_from_is_err_and}
 use Rattle.script.specs.Asked.{asked}
 use Rattle.script.specs.Records.{read_as}
-use Rattle.script.proofs.Fits.{size_within}
 use Rattle.script.proofs.Walk.{start, onward, failed, ended, overlong, known_as}
 use Rattle.script.proofs.reading.read_calls.Goals as goal
 
@@ -17,17 +16,11 @@ returns-in_err-record c =
     let p = err_from_is_err_and c.from_residual-in_err-record.result c.from_residual-in_err-record.ensures.1 in
     rw (p.1, p.2) (failed c.loop-i.invariant.0 _ c.loop-i-test.true c.in_err-record.ensures)
 
-pub slice_bounds-rest-count : goal.slice_bounds-rest-count
-slice_bounds-rest-count c = size_within c.loop-i.rest.now (read_as c.in_ok-record.record) c.in_ok-record.ensures
-
-pub slice_bounds-rest-start : goal.slice_bounds-rest-start
-slice_bounds-rest-start c = size_within c.loop-i.rest.now (read_as c.in_ok-record.record) c.in_ok-record.ensures
-
 pub loop-i-preserved : goal.loop-i-preserved
 loop-i-preserved c =
     let record_read = c.in_ok-record.record in (
       known_as _ _ (sym (ap (map asked) c.push_reserved.ensures.items ∙ map_push asked (vec_items c.loop-i.calls) record_read.call))
-          (onward c.loop-i.invariant.0 (read_as record_read) _ c.loop-i-test.true c.in_ok-record.ensures (take_rest c.loop-i.rest.now record_read.size)),
+          (onward c.loop-i.invariant.0 (read_as record_read) c.loop-i-test.true c.in_ok-record.ensures),
       search rules,
       search rules,
     )

@@ -7,4 +7,4 @@ use Rattle.script.proofs.reading.read_clause.Goals as goal
 pub returns : goal.returns
 returns c =
     let bs = c.args.bytes.now in
-    behind bs 1 (take_at Clause 2 (get_or bs 0 0)) c.read_take.result (omega (arith, ltb-false)) c.read_take.ensures
+    behind bs 1 (take_at Clause (get_or bs 0 0)) c.read_take.result (omega (arith, ltb-false)) c.read_take.ensures

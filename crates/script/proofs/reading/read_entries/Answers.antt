@@ -1,12 +1,14 @@
-use Rattle.std.proofs.Common.{◌≡◌, [], ◌∷◌, ◌++◌, sym, ◌∙◌, arith, w16, to_z, of_z, rules}
-use Rattle.std.proofs.lemmas.List.FromFn.{map-range_with_len_more}
-use Rattle.files.specs.Numbers.{entry}
+use Rattle.std.proofs.Common.{◌≡◌, ◌/◌, length, vec_items, ◌∙◌, rules}
+use Rattle.std.specs.Simd.{first_chunks}
+use Rattle.std.proofs.lemmas.Result.{IfOk-weaker}
+use Rattle.std.proofs.lemmas.Iterator.{YieldsList-from_slice, YieldsList-from_map, items_from_collect}
+use Rattle.files.specs.Numbers.{entries_in}
+use Rattle.script.proofs.Pairs.{of_pair, entries_of_pairs}
 use Rattle.script.proofs.reading.read_entries.Goals as goal
 
-pub loop-i-preserved : goal.loop-i-preserved
-loop-i-preserved c =
-    let this : to_z w16 (of_z w16 c.from_le_bytes.result) ≡ entry c.args.bytes.now c.loop-i.i = search rules in (
-      c.push_reserved.ensures.items ∙ (λ t. c.loop-i.invariant.0 t ++ this t ∷ []) ∙ sym (map-range_with_len_more (entry c.args.bytes.now) 0 c.loop-i.i c.loop-i.i (omega arith)),
-      search rules,
-      search rules,
-    )
+pub returns : goal.returns
+returns c =
+    let bs = c.args.bytes.now in
+    let pairs = first_chunks 2 (length bs / 2) bs in
+    IfOk-weaker c.collect.result _ (λ v. vec_items v ≡ entries_in (length bs / 2) bs) (λ v e. e ∙ entries_of_pairs bs (length bs / 2))
+    (items_from_collect _ c.collect.ensures.ran (YieldsList-from_map _ of_pair (YieldsList-from_slice pairs (cc)) c.map.ensures.closure (λ x r q k. search rules)))
