@@ -5,6 +5,7 @@ ghost use Rattle.session.specs.Phases.{phase_at};
 use search::progress::End;
 
 // Fresh: not begun over the rules that stand; underway: a further try is due; found: ended with a setting; none: ended with none.
+// An enum of its own, since the match on standing and event reads these names.
 #[derive(Clone, Copy, PartialEq, Eq, Debug)]
 pub enum Phase {
     Fresh,

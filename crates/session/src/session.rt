@@ -12,6 +12,7 @@ use std::alloc::Global;
 
 // The first `count` of the rules are the sheet's, those behind them were taken. The reduction is that of all of them.
 // Where the standing is underway or found, the search is over their system. All memory is taken at opening.
+// The heap is kept for the empty search that stands in while the search begins anew.
 #[derive(Drop)]
 pub struct Session {
     pub(crate) heap: Global,
