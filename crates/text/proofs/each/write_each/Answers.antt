@@ -1,6 +1,5 @@
 use Rattle.std.proofs.Common.{subst, rules}
 use Rattle.std.specs.Iterator.{Drains}
-use Rattle.text.specs.Joined.{joined}
 use Rattle.text.proofs.Shown.{Shown, joined_more, shown_more, shown_ok}
 use Rattle.text.proofs.each.write_each.Goals as goal
 
