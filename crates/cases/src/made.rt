@@ -38,6 +38,7 @@ pub(crate) fn repeated(
     count: u16,
 ) -> Result<Vec<RawRule>, AllocError> {
     let mut rules = Vec::new(heap);
+    // So many times; nothing is indexed.
     for _ in 0..count {
         rules.push(raw_rule(heap, kind, entries)?)?;
     }

@@ -28,6 +28,7 @@ fn main(rt: HostRuntime) -> Result<()> {
     let mut input = Vec::new(rt.alloc());
     rt.stdin().read_to_end(&mut input)?;
     let (count, mut rest) = take_number(input.as_slice()).context("no cases")?;
+    // Each case tells its own size.
     for _ in 0..count {
         let (size, after) = take_number(rest).context("cut short")?;
         let (file, others) = after.split_at_checked(size as usize).context("cut short")?;

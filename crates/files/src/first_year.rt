@@ -68,6 +68,7 @@ fn read_clause(n: u16, slots: &[u8]) -> Result<RuleRecord, Flaw>
     read_slots(n, decode(slots, 8).as_slice())
 }
 
+// A pattern takes the bytes apart, so that it shows the mark.
 impl Generation for FirstYear {
     ghost format = { first_year };
 

@@ -16,9 +16,9 @@ pub(crate) struct Records<'a> {
     rules: u16,
     place: usize,
     rest: &'a [u8],
-    pub ghost narrow: { n ≤ 256 },
-    pub ghost few: { rules ≤ 1024 },
-    pub ghost room: { place + length rest.now < 2 ^ 64 },
+    ghost narrow: { n ≤ 256 },
+    ghost few: { rules ≤ 1024 },
+    ghost room: { place + length rest.now < 2 ^ 64 },
 }
 
 impl<'a> Records<'a> {
@@ -27,7 +27,7 @@ impl<'a> Records<'a> {
     ghost use Rattle.files.specs.Files.{file_fault, end_fault, file};
     ghost use Rattle.files.specs.Reads.{left, meant, with_next};
 
-    // The records after the head of the file.
+    // The records after the head of the file. Patterns take the bytes apart, so that they show the head and the end record.
     pub(crate) fn open<G: Generation>(bytes: &'a [u8]) -> Result<Records<'a>, Fault>
         ensures { meant G.Generation.format result ≡ file G.Generation.format bytes.now }
     {
@@ -38,7 +38,7 @@ impl<'a> Records<'a> {
             return Err(Layer::File.fault(Cause::Head, 0, 0));
         }
         let n = u16::from_le_bytes([*low, *high]);
-        if n < 1 || n > MAX_SWITCHES {
+        if !(1..=MAX_SWITCHES).contains(&n) {
             return Err(Layer::File.fault(Cause::SwitchCount, 0, 2));
         }
         Ok(Records {

@@ -65,7 +65,7 @@ fn read_parity(n: u16, width: u8, rest: &[u8]) -> Result<RuleRecord, Flaw>
     let width = width as usize;
     check_size(Kind::Parity(Side::Even), width, 1 + 2 * width, rest)?;
     let [side, switches @ ..] = rest else {
-        unreachable()
+        unreachable!()
     };
     let side = Side::try_from(*side).map_err(|_none| Flaw {
         cause: Cause::Entry,
@@ -74,6 +74,7 @@ fn read_parity(n: u16, width: u8, rest: &[u8]) -> Result<RuleRecord, Flaw>
     read_entries(Kind::Parity(side), n, 4, width, switches)
 }
 
+// Patterns take the bytes apart, so that they show mark and width.
 impl Generation for ThirdYear {
     ghost format = { third_year };
 

@@ -30,6 +30,7 @@ fn add_set(a: &mut [bool], b: &[bool])
     requires { length a.old ≡ length b.now }
     ensures { a.new ≡ difference a.old b.now }
 {
+    // By index: behind a zip with `iter_mut` nothing is known of what was written.
     for (i, member) in a.iter_mut().enumerate() {
         *member = *member != b[i];
     }

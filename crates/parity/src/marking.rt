@@ -35,18 +35,15 @@ fn breaking_place(literals: &[Literal], switches: &[u16]) -> Option<usize>
 }
 
 // Marks the place of the setting that breaks the rule, if that is a clause on exactly the switches.
-pub(crate) fn mark(marks: &mut [bool], rule: &Rule, switches: &[u16])
-    requires size { length marks.old ≡ 32 }
-    requires narrow { length switches.now ≤ 5 }
+pub(crate) fn mark(marks: &mut [bool; 32], rule: &Rule, switches: &[u16])
+    requires { length switches.now ≤ 5 }
     ensures { marks.new ≡ marked marks.old (breaking_place switches.now (constraint rule.now)) }
 {
-    match rule {
-        Rule::Clause(clause) => {
-            if let Some(place) = breaking_place(clause.literals(), switches) {
-                marks[place] = true;
-            }
-        }
-        Rule::Parity(_parity) => {}
+    let Rule::Clause(clause) = rule else {
+        return;
+    };
+    if let Some(place) = breaking_place(clause.literals(), switches) {
+        marks[place] = true;
     }
 }
 
@@ -59,9 +56,8 @@ fn is_off_side(side: Side, place: usize) -> bool
 }
 
 // Every setting of `width` switches that breaks a parity rule of the side is marked.
-pub(crate) fn are_all_marked(marks: &[bool], width: usize, side: Side) -> bool
-    requires size { length marks.now ≡ 32 }
-    requires narrow { width ≤ 5 }
+pub(crate) fn are_all_marked(marks: &[bool; 32], width: usize, side: Side) -> bool
+    requires { width ≤ 5 }
     ensures { Decides result ((k : ℕ) → k < 2 ^ width → off_side_at side k ≡ true → slice_index_or marks.now k false ≡ true) }
 {
     (0..1usize << width).all(|place| marks[place] || !is_off_side(side, place))

@@ -15,6 +15,7 @@ use std::alloc::{AllocError, Global};
 pub struct Reduction {
     pub(crate) switches: u16,
     pub(crate) elimination: Elimination,
+    // Beside the rows, whose memory is kept where the rules contradict each other.
     pub(crate) outcome: Result<(), Contradiction>,
     pub(crate) rows: Vec<Row>,
     ghost room: { 256 ≤ vec_capacity rows },

@@ -30,7 +30,6 @@ pub(crate) struct Sorted<'a> {
 // The bucket of the clauses on the switches of the literals: what is left of the sum of the switches, divided by 256.
 // Clauses of more than five literals recover nothing, and are in no bucket.
 fn bucket_of(literals: &[Literal]) -> Option<usize>
-    requires { length literals.now ≤ 8 }
     ensures { result ≡ bucket literals.now }
 {
     if literals.len() > 5 {
@@ -67,15 +66,15 @@ impl<'a> Sorted<'a> {
     }
 
     // Marks the settings of the switches that break a clause on exactly these switches. Such clauses are all in the given bucket.
-    fn mark_bucket(&self, marks: &mut [bool], bucket: usize, switches: &[u16])
+    fn mark_bucket(&self, marks: &mut [bool; 32], bucket: usize, switches: &[u16])
         requires ranged { every (inside 256) switches.now ≡ true }
         requires apart { different switches.now ≡ true }
         requires narrow { length switches.now ≤ 5 }
         requires bucket { bucket ≡ shared_bucket switches.now }
-        requires size { length marks.old ≡ 32 }
         ensures { marks.new ≡ marked_by switches.now (map constraint self.now.rules.now) marks.old }
     {
         let mut index = self.first[bucket];
+        // Along the links of the bucket.
         while let Some(i) = index {
             let i = usize::from(i);
             mark(marks, &self.rules[i], switches);

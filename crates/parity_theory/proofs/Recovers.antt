@@ -9,11 +9,10 @@ use Rattle.rules.specs.declared.kinds.Side.TheVariants.{Even, Odd}
 use Rattle.rules.specs.declared.kinds.Kind.TheVariants.{Clause, Parity}
 use Rattle.rules.specs.First.{every}
 use Rattle.rules.specs.Settings.{Setting}
-use Rattle.rules.specs.Constraints.{Constraint, clause, parity, xor, same, switch_of, literal_kept, some_kept, odd_on, is_odd, kept, Each, SomeOf}
+use Rattle.rules.specs.Constraints.{Constraint, clause, parity, xor, same, switch_of, literal_kept, some_kept, odd_on, is_odd, kept, Each, SomeOf, side_when}
 use Rattle.rules.specs.Lawful.{absent, different, inside, width_fits, lawful}
 use Rattle.parity_theory.specs.Standing.{Breaks, Recovered, IsRecovered}
 use Rattle.parity_theory.specs.Equations.{Equation, equation, same_set, same_equation}
-use Rattle.rules.specs.Constraints.{side_when}
 use Rattle.parity_theory.specs.Writing.{off_side, against, written_out}
 use Rattle.parity_theory.specs.Recovering.{clauses, odd_negations, side_of, narrow, recovers, equation_of, equations_of, firsts, recover}
 use Rattle.parity_theory.specs.Claims.{LawfulRules, OfRecovered}

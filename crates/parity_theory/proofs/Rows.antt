@@ -4,11 +4,10 @@ use Rattle.std.proofs.lemmas.List.{length-map}
 use Rattle.std.proofs.lemmas.Bool.{cond_both, cases_eq, and_parts, and_from, eq-eqb, ne_eqb, le-leb}
 use Rattle.rules.specs.First.{every}
 use Rattle.rules.specs.Settings.{Setting, Within}
-use Rattle.rules.specs.Constraints.{xor, same, odd_on, is_odd, kept, Each, Keeps}
+use Rattle.rules.specs.Constraints.{xor, same, odd_on, is_odd, kept, Each, Keeps, side_when}
 use Rattle.rules.specs.Lawful.{absent}
 use Rattle.rules.specs.Rows.{free, tally, Falling, Member, Apart, Reduced}
 use Rattle.parity_theory.specs.Equations.{has, odd_in, satisfies}
-use Rattle.rules.specs.Constraints.{side_when}
 use Rattle.parity_theory.specs.Reducing.{Row, falling, as_rule}
 use Rattle.parity_theory.specs.Claims.{is_parity}
 use Rattle.parity_theory.proofs.Lists.{each_map, each_zip}

@@ -6,11 +6,10 @@ use Rattle.rules.specs.declared.kinds.Side.{Side}
 use Rattle.rules.specs.declared.kinds.Side.TheVariants.{Even, Odd}
 use Rattle.rules.specs.First.{every}
 use Rattle.rules.specs.Settings.{Setting, Within}
-use Rattle.rules.specs.Constraints.{Constraint, clause, parity, is_odd, kept, Each, SomeOf, Keeps}
+use Rattle.rules.specs.Constraints.{Constraint, clause, parity, is_odd, kept, Each, SomeOf, Keeps, side_when}
 use Rattle.rules.specs.Lawful.{absent}
 use Rattle.rules.specs.Rows.{free, Falling, Member, Apart, Reduced}
 use Rattle.parity_theory.specs.Equations.{has, set_of, equation, satisfies}
-use Rattle.rules.specs.Constraints.{side_when}
 use Rattle.parity_theory.specs.Reducing.{Row, row, falling, as_rule}
 use Rattle.parity_theory.specs.Claims.{is_parity, SameRules}
 use Rattle.parity_theory.proofs.Lists.{each_weaker, each_map, each_unmap, each_zip, each_some, each_true, some_unmap}

@@ -5,10 +5,9 @@ use Rattle.std.proofs.lemmas.Bool.{cases_order, and_parts, and_from, leb-true, l
 use Rattle.rules.specs.declared.literals.Literal.{Literal}
 use Rattle.rules.specs.declared.kinds.Side.{Side}
 use Rattle.rules.specs.First.{every}
-use Rattle.rules.specs.Constraints.{Constraint, clause, parity, xor, switch_of, Each}
+use Rattle.rules.specs.Constraints.{Constraint, clause, parity, xor, switch_of, Each, side_when}
 use Rattle.rules.specs.Lawful.{inside, lawful}
 use Rattle.parity_theory.specs.Equations.{has, Equation, equation, plus}
-use Rattle.rules.specs.Constraints.{side_when}
 use Rattle.parity_theory.specs.Recovering.{clauses, named, side_of, narrow, recovers, equation_of, equations_of}
 use Rattle.parity_theory.specs.Reducing.{Row, row, highest, cleared_by, cleared, joined, placed, extended, reduce_from, reduce, falling, as_rule, as_rules, rows}
 use Rattle.parity_theory.specs.Claims.{LawfulRules}

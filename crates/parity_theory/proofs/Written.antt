@@ -8,9 +8,8 @@ use Rattle.rules.specs.declared.literals.Literal.{Literal}
 use Rattle.rules.specs.declared.kinds.Side.{Side}
 use Rattle.rules.specs.declared.kinds.Side.TheVariants.{Even, Odd}
 use Rattle.rules.specs.Settings.{Setting}
-use Rattle.rules.specs.Constraints.{clause, parity, xor, same, switch_of, some_kept, odd_on, is_odd, kept, Each, Keeps}
+use Rattle.rules.specs.Constraints.{clause, parity, xor, same, switch_of, some_kept, odd_on, is_odd, kept, Each, Keeps, side_when}
 use Rattle.rules.specs.Lawful.{absent, different}
-use Rattle.rules.specs.Constraints.{side_when}
 use Rattle.parity_theory.specs.Writing.{settings, odd_number, off_side, against, written_out}
 use Rattle.parity_theory.specs.Recovering.{odd_negations, side_of}
 use Rattle.parity_theory.proofs.Lists.{each_weaker, each_map, each_kept, each_kept_at, each_unmap, each_at}

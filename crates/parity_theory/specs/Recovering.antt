@@ -3,9 +3,8 @@ use Rattle.std.specs.Prelude.{ℕ, Bool, false, not, ◌&&◌, ◌||◌, List, [
 use Rattle.rules.specs.declared.literals.Literal.{Literal}
 use Rattle.rules.specs.declared.kinds.Side.{Side}
 use Rattle.rules.specs.First.{every}
-use Rattle.rules.specs.Constraints.{Constraint, clause, parity, xor, same, switch_of}
+use Rattle.rules.specs.Constraints.{Constraint, clause, parity, xor, same, switch_of, side_when}
 use Rattle.parity_theory.specs.Equations.{Equation, equation, same_equation}
-use Rattle.rules.specs.Constraints.{side_when}
 use Rattle.parity_theory.specs.Writing.{written_out}
 
 -- the clauses among the rules, in their order

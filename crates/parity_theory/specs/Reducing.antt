@@ -1,8 +1,7 @@
 -- The reduction of equations to rows, and the number of free switches.
 use Rattle.std.specs.Prelude.{ℕ, zero, suc, ◌-◌, Bool, true, false, cond, List, [], ◌∷◌, ◌++◌, map, length, Some, None, Option}
-use Rattle.rules.specs.Constraints.{Constraint, parity}
+use Rattle.rules.specs.Constraints.{Constraint, parity, side_when}
 use Rattle.parity_theory.specs.Equations.{has, Equation, plus}
-use Rattle.rules.specs.Constraints.{side_when}
 use Rattle.parity_theory.specs.Recovering.{parities}
 
 -- an equation with its dependent, the highest switch of its set

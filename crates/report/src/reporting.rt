@@ -28,6 +28,7 @@ fn write_sheet_report<S: Sheet>(heap: Global, sheet: &S, out: &mut [u8]) -> Resu
 }
 
 // The report on the sheet file, or the line that tells its refusal, at the front of the buffer; its length is told, and the buffer beyond is left.
+// A fault is no error here: its line is the text.
 pub fn write_report(heap: Global, input: &[u8], out: &mut [u8]) -> Result<usize, TextError>
     ensures { WrittenOr (file_report input.now) out.old out.new result }
 {

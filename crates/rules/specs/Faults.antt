@@ -1,4 +1,4 @@
--- The numbers of the causes for which something is refused.
+-- Faults: the numbers of their causes, the words for their layers, and the text of a refusal.
 use Rattle.std.specs.Prelude.{ℕ, List, ◌++◌, codes, decimal}
 use Rattle.rules.specs.declared.faults.Cause.{Cause}
 use Rattle.rules.specs.declared.faults.Cause.TheVariants.{Head, SwitchCount, Form, Width, Entry, Repeat, RuleCount, ShortBuffer, PlacedTooHigh, PairTooLong, ParityTooWide, TooManyRecords, MarginFull, NothingFound}
@@ -41,6 +41,6 @@ layer_word Session = codes "session"
 layer_word Writer = codes "writer"
 
 -- refused NUMBER LAYER RECORD PLACE
-abbrev pub refusal_text : Fault → List ℕ
-refusal_text f =
+abbrev pub fault_text : Fault → List ℕ
+fault_text f =
     codes "refused " ++ (decimal (number f.cause) ++ (codes " " ++ (layer_word f.layer ++ (codes " " ++ (decimal f.«record» ++ (codes " " ++ decimal f.place))))))

@@ -19,7 +19,7 @@ fn fits<K: RuleKind>(width: usize) -> bool
     1 <= width && width <= K::WIDTH
 }
 
-// The width is one that a rule of the kind may have.
+// The width is one that a rule of the kind may have. One arm for each kind, since the width is a constant of its type.
 pub fn width_fits(kind: Kind, width: usize) -> bool
     ensures { result ≡ width_fits kind width }
 {
@@ -32,7 +32,7 @@ pub fn width_fits(kind: Kind, width: usize) -> bool
 fn is_fitting(kind: Kind, n: u16, literal: Literal) -> bool
     ensures { result ≡ literal_fits kind n literal }
 {
-    if literal.switch < 1 || literal.switch > n {
+    if !(1..=n).contains(&literal.switch) {
         return false;
     }
     match kind {
@@ -57,6 +57,7 @@ fn is_named(entries: &[i16], switch: u16) -> bool
 fn check_entries(kind: Kind, n: u16, entries: &[i16]) -> Result<(), Misfit>
     ensures { result ≡ verdict (entries_misfit kind n entries.now) tt }
 {
+    // The index is the place of a fault, and the first fault ends the check.
     for (i, entry) in entries.iter().enumerate() {
         let literal = Literal::from(*entry);
         if !is_fitting(kind, n, literal) {
@@ -99,6 +100,7 @@ fn parity_of(entries: &[i16], side: Side) -> Parity
 }
 
 // The rule of the kind over n switches with these entries, or the first thing wrong: its width, then its entries from the first to the last.
+// The three are the question as it is asked.
 pub fn build_rule(kind: Kind, n: u16, entries: &[i16]) -> Result<Rule, Misfit>
     ensures value { on_ok constraint result ≡ built kind n entries.now }
     ensures lawful { IfOk result (λ rule. Lawful n (constraint rule)) }

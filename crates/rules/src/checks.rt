@@ -9,6 +9,7 @@ use crate::faults::{Cause, Fault, Layer};
 use crate::kinds::{Kind, NoSide, RawKind, Side};
 use crate::rule::Rule;
 
+// One arm for each kind.
 fn raw_width_fits(kind: RawKind, width: usize) -> bool
     ensures { result ≡ raw_width_fits kind width }
 {
@@ -42,12 +43,7 @@ pub fn check_rule(
 ) -> Result<Rule, Fault>
     ensures { on_ok constraint result ≡ checked layer «record» n kind entries.now }
 {
-    let refuse = |cause: Cause, place: usize| Fault {
-        layer,
-        cause,
-        record,
-        place,
-    };
+    let refuse = |cause: Cause, place: usize| layer.fault(cause, record, place);
     if !raw_width_fits(kind, entries.len()) {
         return Err(refuse(Cause::Width, 0));
     }

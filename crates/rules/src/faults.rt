@@ -1,6 +1,6 @@
 // Why input or a call is refused.
 ghost use Rattle.std.specs.Prelude.{◌≡◌, Some};
-ghost use Rattle.rules.specs.Faults.{number, layer_word, fault, refusal_text};
+ghost use Rattle.rules.specs.Faults.{number, layer_word, fault, fault_text};
 
 use std::fmt;
 
@@ -46,20 +46,20 @@ impl Layer {
 // What is at fault; docs/refusals.md says when each is given.
 #[derive(Clone, Copy, PartialEq, Eq, Debug)]
 pub enum Cause {
-    Head,
-    SwitchCount,
-    Form,
-    Width,
-    Entry,
-    Repeat,
-    RuleCount,
-    ShortBuffer,
-    PlacedTooHigh,
-    PairTooLong,
-    ParityTooWide,
-    TooManyRecords,
-    MarginFull,
-    NothingFound,
+    Head = 1,
+    SwitchCount = 2,
+    Form = 3,
+    Width = 4,
+    Entry = 5,
+    Repeat = 6,
+    RuleCount = 7,
+    ShortBuffer = 8,
+    PlacedTooHigh = 9,
+    PairTooLong = 10,
+    ParityTooWide = 11,
+    TooManyRecords = 12,
+    MarginFull = 13,
+    NothingFound = 14,
 }
 
 // The number by which a refusal tells its cause.
@@ -67,22 +67,7 @@ impl From<Cause> for u8 {
     ghost from_gives = { λ cause n. n ≡ number cause };
 
     fn from(cause: Cause) -> u8 {
-        match cause {
-            Cause::Head => 1,
-            Cause::SwitchCount => 2,
-            Cause::Form => 3,
-            Cause::Width => 4,
-            Cause::Entry => 5,
-            Cause::Repeat => 6,
-            Cause::RuleCount => 7,
-            Cause::ShortBuffer => 8,
-            Cause::PlacedTooHigh => 9,
-            Cause::PairTooLong => 10,
-            Cause::ParityTooWide => 11,
-            Cause::TooManyRecords => 12,
-            Cause::MarginFull => 13,
-            Cause::NothingFound => 14,
-        }
+        cause as u8
     }
 }
 
@@ -97,7 +82,7 @@ pub struct Fault {
 
 // The text of a refusal: its number, its layer, its record and its place.
 impl fmt::Display for Fault {
-    ghost output = { λ f. Some (refusal_text f) };
+    ghost output = { λ f. Some (fault_text f) };
 
     fn fmt<W: fmt::Write>(&self, f: &mut fmt::Formatter<W>) -> fmt::Result {
         let number = u8::from(self.cause);

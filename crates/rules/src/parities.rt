@@ -35,6 +35,7 @@ impl<const N: usize> ParityRule<N> {
     pub fn switches(&self) -> &[u16]
         ensures { result.now ≡ switches_of self.now }
     {
+        // Of the whole slice, whose length is known.
         let all = &self.switches[..];
         &all[0..self.width]
     }

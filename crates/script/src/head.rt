@@ -39,7 +39,7 @@ pub struct Head {
     pub calls: u16,
 }
 
-// The head at the front of the bytes; absent where they do not begin with one.
+// The head at the front of the bytes; absent where they do not begin with one. A pattern takes them apart, so that it shows the head.
 pub fn read_head(bytes: &[u8]) -> Option<Head>
     ensures { result ≡ head_at bytes.now }
 {

@@ -10,6 +10,7 @@ use crate::values::PartSetting;
 
 // Sets what the next rule from an index on forces, and gives the index with which forcing goes on: that of the rule behind the one
 // that forced, or the first one's where the pass did not begin there. All rules are quiet where a pass from the first one meets nothing.
+// The rules are a lent slice, so a clause says of them what the invariant of a system gives.
 fn force_next<R: Forcing>(
     rules: &[R],
     from: usize,

@@ -11,7 +11,7 @@ use rules::kinds::RuleKind;
 use rules::literals::Literal;
 
 // A rule is dead.
-#[derive(Clone, Copy)]
+#[derive(Clone, Copy, PartialEq, Eq, Debug)]
 pub struct Dead;
 
 // A literal that is forced, and the index of the rule that forces it.

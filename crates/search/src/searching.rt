@@ -77,7 +77,7 @@ impl Search {
             .follow(&self.system, Literal { switch, on: true });
     }
 
-    // Makes the try that is due.
+    // Makes the try that is due. What is due is a value, since it is also asked for without being made.
     fn make(&mut self, next: Due)
         requires { Makes next self.old }
         ensures same { self.new.system ≡ self.old.system }

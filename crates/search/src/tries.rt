@@ -11,7 +11,7 @@ pub struct Try {
     pub on: bool,
 }
 
-// The tries that stand are the first `count` of the table, the latest last.
+// The tries that stand are the first `count` of the table, the latest last. The table is fixed, since a try takes no memory.
 #[derive(Drop)]
 pub struct Tries {
     pub table: [Try; 256],

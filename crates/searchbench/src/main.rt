@@ -24,9 +24,8 @@ fn clauses_of(heap: Global, table: &Table) -> Result<Vec<Clause>, AllocError>
 {
     let mut clauses = Vec::new(heap);
     for rule in table.rules.as_slice() {
-        match rule {
-            Rule::Clause(clause) => clauses.push(*clause)?,
-            Rule::Parity(_parity) => {}
+        if let Rule::Clause(clause) = rule {
+            clauses.push(*clause)?;
         }
     }
     Ok(clauses)
@@ -41,7 +40,7 @@ fn system_of(heap: Global, table: &Table) -> Result<System, AllocError> {
     })
 }
 
-fn run(rt: &HostRuntime) -> anyhow::Result<()> {
+fn main(rt: HostRuntime) -> anyhow::Result<()> {
     let heap = rt.alloc();
     let mut input = Vec::new(heap);
     rt.stdin().take(36_873).read_to_end(&mut input)?;
@@ -56,8 +55,4 @@ fn run(rt: &HostRuntime) -> anyhow::Result<()> {
         End::None => println!(rt; "none {tries}")?,
     }
     Ok(())
-}
-
-fn main(rt: HostRuntime) -> anyhow::Result<()> {
-    run(&rt)
 }

@@ -104,7 +104,7 @@ impl Session {
         self.join_with_room(rule)
     }
 
-    // Changes the session as its standing and the event have it.
+    // Changes the session as its standing and the event have it: one match says what each does at each.
     pub(crate) fn answer(&mut self, event: Event) -> Answer
         ensures { Answers (session_of self.old) event.entry result (session_of self.new) }
     {

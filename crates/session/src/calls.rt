@@ -21,6 +21,7 @@ impl Session {
     {
         match self.answer(Event::Take(kind, entries)) {
             Answer::Took(reply) => reply,
+            // A take is answered as a take, which the contract of `answer` says.
             Answer::Settled(_settled) => unreachable!(),
         }
     }
@@ -39,6 +40,7 @@ impl Session {
         ensures lawful { GoesOn (session_of self.old) (settle_entry budget result) (session_of self.new) }
     {
         match self.answer(Event::Settle(budget)) {
+            // A settle is answered as a settle.
             Answer::Took(_reply) => unreachable!(),
             Answer::Settled(settled) => settled,
         }

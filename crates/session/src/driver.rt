@@ -31,6 +31,7 @@ pub fn perform<S: Sheet>(heap: Global, sheet: &S, calls: &[Call]) -> Result<Vec<
 {
     let mut session = open(heap, sheet)?;
     let mut replies = Vec::with_capacity(heap, calls.len())?;
+    // No chain: each call may fail, and changes the session.
     for call in calls {
         let reply = call_once(&mut session, heap, call)?;
         replies.push_reserved(reply);

@@ -41,7 +41,7 @@ fn empty_search(heap: Global) -> Search {
     })
 }
 
-// Leaves the clauses among the rules, in their order.
+// Leaves the clauses among the rules, in their order, in the memory that was taken at opening.
 fn fill_clauses(clauses: &mut Vec<Clause>, rules: &[Rule])
     requires { length rules.now ≤ vec_capacity clauses.old }
     ensures clauses { map clause_constraint clauses.new.items ≡ map clause (clauses_of (map constraint rules.now)) }

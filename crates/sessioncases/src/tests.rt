@@ -10,6 +10,7 @@ use sheets::raw::RawRule;
 use sheets::table::Table;
 use sheets::tabling::make_table;
 use std::alloc::{AllocError, Global};
+use std::slice;
 use std::test::Fail;
 
 fn refusal(cause: Cause, place: usize) -> Result<(), Fault> {
@@ -18,13 +19,11 @@ fn refusal(cause: Cause, place: usize) -> Result<(), Fault> {
 
 // An odd number of the switches 1, 2, 3 is on.
 fn odd_three(heap: Global) -> Result<Table, AllocError> {
-    let mut rules = Vec::new(heap);
-    let entries = [1i16, 2, 3].to_vec(heap)?;
-    rules.push(RawRule {
+    let odd = RawRule {
         kind: RawKind::Parity(1),
-        entries,
-    })?;
-    make_table(heap, 3, rules.as_slice())
+        entries: [1i16, 2, 3].to_vec(heap)?,
+    };
+    make_table(heap, 3, slice::from_ref(&odd))
 }
 
 // Settles, and tells the end without the setting, and the tries.

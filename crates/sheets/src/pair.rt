@@ -43,7 +43,7 @@ impl<F: Sheet, G: Sheet> Pair<F, G> {
         }
     }
 
-    // Refused where the rules would pass 2,048; the sheet is then blank.
+    // Refused where the rules would pass 2,048; the sheet is then blank. The check of a placing differs in its test and its cause.
     pub fn check(&self) -> Result<(), Fault>
         ensures { result ≡ pair_check (F.Sheet.meaning self.now.first) (G.Sheet.meaning self.now.second) }
     {
@@ -60,7 +60,7 @@ impl<F: Sheet, G: Sheet> Sheet for Pair<F, G> {
 
     ghost lawful = { λ s. paired_lawful (F.Sheet.meaning s.first) (G.Sheet.meaning s.second) (F.Sheet.lawful s.first) (G.Sheet.lawful s.second) };
 
-    // Two numbers and no option: `if` says it most plainly.
+    // A number and no option, here and in `count`: `if` says it most plainly.
     fn switches(&self) -> u16 {
         if self.is_short() {
             self.first.switches().max(self.second.switches())

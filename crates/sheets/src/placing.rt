@@ -28,7 +28,7 @@ impl<S: Sheet> Placing<S> {
         self.has_room().then_some(&self.below)
     }
 
-    // Refused where the switches would pass 256; the sheet is then blank.
+    // Refused where the switches would pass 256; the sheet is then blank. The check of a pair differs in its test and its cause.
     pub fn check(&self) -> Result<(), Fault>
         ensures { result ≡ placing_check (S.Sheet.meaning self.now.below) self.now.by }
     {

@@ -55,6 +55,7 @@ pub struct Rules<'a, S> {
 }
 
 impl<'a, S: Sheet> Rules<'a, S> {
+    // All rules of the sheet.
     pub fn of(sheet: &'a S) -> Rules<'a, S>
         ensures { rules_left S.Sheet.meaning result ≡ (S.Sheet.meaning sheet.now).rules }
     {

@@ -21,6 +21,7 @@ pub trait Sheet {
     fn kind(&self, i: usize) -> Option<Kind>
         ensures { result ≡ told_kind (meaning self.now) i };
 
+    // Two numbers, as a file or a table has its rules and their entries.
     // Entry j of rule i; absent exactly past the end of the rule, and for every j where there is no rule i.
     fn entry(&self, i: usize, j: usize) -> Option<Literal>
         ensures { result ≡ told_entry (meaning self.now) i j };

@@ -45,6 +45,7 @@ pub fn check_table(n: u16, rules: &[RawRule]) -> Result<(), Fault>
     ensures { result ≡ check_of (table n (map draft rules.now)) }
 {
     check_size(n, rules.len())?;
+    // The index is the record that a fault names.
     for (i, rule) in rules.iter().enumerate() {
         check_draft(n, i, rule)?;
     }

@@ -1,7 +1,7 @@
 // Bytes put one behind the other into a buffer that a caller lends.
 ghost use Rattle.std.specs.Prelude.{◌≡◌, ◌++◌};
 
-// The bytes before `end` are put.
+// A cursor: of a buffer that is written in chunks nothing would be known afterwards. The bytes before `end` are put.
 #[derive(Drop)]
 pub(crate) struct Output<'a> {
     buffer: &'a mut [u8],

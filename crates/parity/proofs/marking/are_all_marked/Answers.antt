@@ -7,8 +7,8 @@ use Rattle.parity.proofs.marking.are_all_marked.Goals as goal
 
 pub all-requires-clause-callable : goal.all-requires-clause-callable
 all-requires-clause-callable c =
-    let few : 2 ^ c.args.width ≤ 2 ^ 5 = pow_mono c.requires.narrow in
-    serves_from_Range (λ x q k. search rules) (λ x a b κs p n e r l u f. omega (arith, c.requires.size))
+    let few : 2 ^ c.args.width ≤ 2 ^ 5 = pow_mono c.requires in
+    serves_from_Range (λ x q k. search rules) (λ x a b κs p n e r l. omega (arith, few))
 
 -- each place that has to be marked is marked
 all_decided : (r : Bool) (n : ℕ) (marked off : ℕ → Bool) → MatchBool r (AllWithin (λ k. (marked k || not (off k)) ≡ true) (range_with_len 0 n) 0 (length (range_with_len 0 n))) ((i : ℕ) × (i < length (range_with_len 0 n)) × HoldsAt (λ k. (marked k || not (off k)) ≡ false) (range_with_len 0 n) i) → Decides r ((k : ℕ) → k < n → off k ≡ true → marked k ≡ true)
@@ -34,7 +34,7 @@ pub returns : goal.returns
 returns c =
     let marks = c.args.marks.now in
     let side = c.args.side in
-    let few : 2 ^ c.args.width ≤ 2 ^ 5 = pow_mono c.requires.narrow in
+    let few : 2 ^ c.args.width ≤ 2 ^ 5 = pow_mono c.requires in
     let road = YieldsList-from_range 0 ((1 * 2 ^ c.args.width) % 18446744073709551616) (2 ^ c.args.width) refl (omega arith) in
     let checked = cases_from_all _ _ _ (λ k. (get_or marks k false || not (off_side_at side k)) ≡ true) (λ k. (get_or marks k false || not (off_side_at side k)) ≡ false) c.all.ensures.ran road (λ x q k. search (rules, tests)) (λ x q k. search (rules, tests)) in
     all_decided c.all.result (2 ^ c.args.width) (λ k. get_or marks k false) (off_side_at side) checked
