@@ -65,7 +65,8 @@ fn read_clause(n: u16, slots: &[u8]) -> Result<RuleRecord, Flaw>
             offset: 0,
         });
     }
-    read_slots(n, decode(slots, 8).as_slice())
+    let entries = decode(slots, 8);
+    read_slots(n, &entries[..8])
 }
 
 // A pattern takes the bytes apart, so that it shows the mark.

@@ -46,7 +46,7 @@ fn read_entries(
     ensures { on_ok read_as result ≡ listed kind n first width bytes.now }
 {
     let entries = decode(bytes, width);
-    frame(kind, n, entries.as_slice(), first, first + 2 * width)
+    frame(kind, n, &entries[..width], first, first + 2 * width)
 }
 
 // A clause from its width on.

@@ -86,6 +86,7 @@ impl Equation {
     }
 
     // The index of the highest member.
+    #[tactic(auto, using(crate::proofs::Sets::highest_found))]
     pub(crate) fn highest(&self) -> Option<usize>
         ensures index { switch_at result ≡ highest self.now.members }
         ensures inside { IfSome result (λ i. i < 256) }

@@ -36,6 +36,13 @@ fn write_rows(rows: &mut Vec<Row>, solved: &[Solved])
     }
 }
 
+// What the rules come to now, in the place of what was told before.
+fn put_outcome(told: &mut Result<(), Contradiction>, now: Result<(), Contradiction>)
+    ensures { told.new ≡ now }
+{
+    *told = now;
+}
+
 impl Reduction {
     ghost use Rattle.parity.specs.Reductions.{rows_told, switches_told, standing_rules, Right};
 
@@ -61,8 +68,9 @@ impl Reduction {
     {
         self.switches = standing.switches;
         self.rows.clear();
-        self.outcome = self.elimination.eliminate(standing.rules.as_slice());
-        if self.outcome.is_ok() {
+        let outcome = self.elimination.eliminate(standing.rules.as_slice());
+        put_outcome(&mut self.outcome, outcome);
+        if outcome.is_ok() {
             write_rows(&mut self.rows, self.elimination.rows.as_slice());
         }
     }

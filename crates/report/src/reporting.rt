@@ -1,11 +1,12 @@
 // Reports on sheet files.
 ghost use Rattle.text.specs.Lent.{WrittenOr};
-ghost use Rattle.report.specs.Reports.{sheet_report, file_report};
+ghost use Rattle.report.specs.Reports.{sheet_report, file_report, TableOr};
 
 use crate::lines::Report;
 use files::any::{check_any, read_any};
 use session::opening::open;
 use sheets::sheet::Sheet;
+use sheets::table::Table;
 use std::alloc::Global;
 use text::errors::TextError;
 use text::lent::write_text;
@@ -27,16 +28,22 @@ fn write_sheet_report<S: Sheet>(heap: Global, sheet: &S, out: &mut [u8]) -> Resu
     write_text(heap, report, out)
 }
 
+// The table of the file, or the fault for which it is refused, which comes here by `?` from the record that is at fault.
+fn read_table(heap: Global, input: &[u8]) -> Result<Table, TextError>
+    ensures { TableOr input.now result }
+{
+    check_any(input)?;
+    let table = read_any(heap, input)?;
+    Ok(table)
+}
+
 // The report on the sheet file, or the line that tells its refusal, at the front of the buffer; its length is told, and the buffer beyond is left.
-// A fault is no error here: its line is the text.
 pub fn write_report(heap: Global, input: &[u8], out: &mut [u8]) -> Result<usize, TextError>
     ensures { WrittenOr (file_report input.now) out.old out.new result }
 {
-    match check_any(input) {
-        Ok(()) => {
-            let table = read_any(heap, input)?;
-            write_sheet_report(heap, &table, out)
-        }
-        Err(fault) => write_refusal(heap, fault, out),
+    match read_table(heap, input) {
+        Ok(table) => write_sheet_report(heap, &table, out),
+        Err(TextError::Refused(fault)) => write_refusal(heap, fault, out),
+        Err(TextError::Memory) => Err(TextError::Memory),
     }
 }

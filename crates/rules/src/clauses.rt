@@ -1,5 +1,5 @@
 // Clauses: at least one of their literals is kept.
-ghost use Rattle.std.specs.Prelude.{◌≡◌, ◌+◌, ◌<◌, ◌≤◌, [], ◌∷◌, ◌++◌};
+ghost use Rattle.std.specs.Prelude.{◌≡◌, ◌+◌, ◌<◌, ◌≤◌, [], ◌∷◌, ◌++◌, nat_lt};
 
 use crate::kinds::RuleKind;
 use crate::literals::Literal;
@@ -36,14 +36,19 @@ impl Clause {
         &self.literals[0..self.width]
     }
 
-    // One more literal.
-    pub fn push(&mut self, literal: Literal)
-        requires { self.old.width < 8 }
-        ensures more { literals_of self.new ≡ literals_of self.old ++ literal ∷ [] }
-        ensures width { self.new.width ≡ self.old.width + 1 }
+    // One more literal, where there is room for it, and whether there was. A clause of eight literals stays as it is.
+    pub fn push(&mut self, literal: Literal) -> bool
+        ensures room { result ≡ nat_lt self.old.width 8 }
+        ensures more { self.old.width < 8 → literals_of self.new ≡ literals_of self.old ++ literal ∷ [] }
+        ensures width { self.old.width < 8 → self.new.width ≡ self.old.width + 1 }
+        ensures full { 8 ≤ self.old.width → self.new ≡ self.old }
     {
+        if self.width >= 8 {
+            return false;
+        }
         self.literals[self.width] = literal;
         self.width += 1;
+        true
     }
 }
 

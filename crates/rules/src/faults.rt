@@ -71,6 +71,15 @@ impl From<Cause> for u8 {
     }
 }
 
+impl Cause {
+    // The same, by name.
+    pub fn number(self) -> u8
+        ensures { result ≡ number self }
+    {
+        u8::from(self)
+    }
+}
+
 // A refusal: `record` counts the rules before the place at fault, and `place` is a byte's offset in a file or an entry's index in a rule.
 #[derive(Clone, Copy, PartialEq, Eq, Debug)]
 pub struct Fault {
@@ -85,7 +94,7 @@ impl fmt::Display for Fault {
     ghost output = { λ f. Some (fault_text f) };
 
     fn fmt<W: fmt::Write>(&self, f: &mut fmt::Formatter<W>) -> fmt::Result {
-        let number = u8::from(self.cause);
+        let number = self.cause.number();
         write!(
             f,
             "refused {number} {} {} {}",

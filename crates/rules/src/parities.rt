@@ -1,5 +1,5 @@
 // Parity rules: an even or an odd number of their switches is on.
-ghost use Rattle.std.specs.Prelude.{◌≡◌, ◌+◌, ◌<◌, ◌≤◌, [], ◌∷◌, ◌++◌};
+ghost use Rattle.std.specs.Prelude.{◌≡◌, ◌+◌, ◌<◌, ◌≤◌, [], ◌∷◌, ◌++◌, nat_lt};
 
 use crate::kinds::{RuleKind, Side};
 
@@ -40,15 +40,20 @@ impl<const N: usize> ParityRule<N> {
         &all[0..self.width]
     }
 
-    // One more switch.
-    pub fn push(&mut self, switch: u16)
-        requires { self.old.width < N }
-        ensures more { switches_of self.new ≡ switches_of self.old ++ switch ∷ [] }
-        ensures width { self.new.width ≡ self.old.width + 1 }
+    // One more switch, where there is room for it, and whether there was. A rule of N switches stays as it is.
+    pub fn push(&mut self, switch: u16) -> bool
+        ensures room { result ≡ nat_lt self.old.width N }
+        ensures more { self.old.width < N → switches_of self.new ≡ switches_of self.old ++ switch ∷ [] }
+        ensures width { self.old.width < N → self.new.width ≡ self.old.width + 1 }
         ensures side { self.new.side ≡ self.old.side }
+        ensures full { N ≤ self.old.width → self.new ≡ self.old }
     {
+        if self.width >= N {
+            return false;
+        }
         self.switches[self.width] = switch;
         self.width += 1;
+        true
     }
 }
 

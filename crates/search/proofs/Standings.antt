@@ -16,12 +16,13 @@ use Rattle.search_theory.proofs.Forcing.{ends_forced}
 use Rattle.search_theory.proofs.Finding.{reduced_over}
 use Rattle.search_theory.proofs.Stacks.{step_turn, step_try, lowest_open, part_still, reach_proper, stack_set, stack_room}
 use Rattle.search.specs.declared.looking.Dead.{Dead}
-use Rattle.search.specs.declared.values.Assigned.{Assigned}
+use Rattle.search.specs.declared.values.Value.{Value}
+use Rattle.search.specs.declared.values.Value.TheVariants.{Unset}
 use Rattle.search.specs.declared.values.PartSetting.{PartSetting}
 use Rattle.search.specs.declared.tries.Try.{Try}
 use Rattle.search.specs.declared.tries.Tries.{Tries}
 use Rattle.search.specs.declared.state.State.{State}
-use Rattle.search.specs.Values.{value, part_of, upto, back, Puts}
+use Rattle.search.specs.Values.{view, part_of, upto, back, Puts}
 use Rattle.search.specs.Moves.{Moves, Ends}
 use Rattle.search.specs.Stacks.{no_try, stack, stack_of, LatestOff, Tops}
 use Rattle.search.specs.States.{Reached, Standing, Ready}
@@ -63,19 +64,19 @@ module _ (n : ℕ) (rules : List Constraint) where
       omega arith)
 
 -- nothing set
-blank_at : (m v : ℕ) → value (get_or (replicate m None) v None) ≡ None
+blank_at : (m v : ℕ) → view (get_or (replicate m Unset) v Unset) ≡ None
 blank_at zero v = refl
 blank_at (suc m) zero = refl
 blank_at (suc m) (suc v) = blank_at m v
 
 -- the first forcing
-module _ (n : ℕ) (rules : List Constraint) (o : Over n rules) (s t : PartSetting) (u : Tries) (d : Result (Unit {0}) Dead) (none : s.values ≡ replicate 256 None) (bottom : s.level ≡ 0) (moves : Moves rules s t) (ends : Ends d rules (part_of t)) where
+module _ (n : ℕ) (rules : List Constraint) (o : Over n rules) (s t : PartSetting) (u : Tries) (d : Result (Unit {0}) Dead) (none : s.values ≡ replicate 256 Unset) (bottom : s.level ≡ 0) (moves : Moves rules s t) (ends : Ends d rules (part_of t)) where
   nothing_set : part_of s ≡ blank
   nothing_set = fun_ext by
     where
       by : (v : ℕ) → part_of s v ≡ None
       by zero = refl
-      by (suc v) = ap (λ (vs : List (Option Assigned)). value (get_or vs v None)) none ∙ blank_at 256 v
+      by (suc v) = ap (λ (vs : List Value). view (get_or vs v Unset)) none ∙ blank_at 256 v
 
   begin_top : upto s s.level ≡ part_of s
   begin_top = fun_ext by
@@ -105,7 +106,7 @@ module _ (n : ℕ) (rules : List Constraint) (o : Over n rules) (l : Literal) (s
   before = stack s.tries.table s.part.level
 
   abbrev raised : PartSetting
-  raised = record { values = s.part.values; level = s.part.level + 1 }
+  raised = record { values = s.part.values; levels = s.part.levels; level = s.part.level + 1 }
 
   was_unset : part_of s.part l.switch ≡ None
   was_unset = ap (λ f. f l.switch) ready.here ∙ reached_unset n rules l before ready.reached

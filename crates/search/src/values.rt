@@ -1,42 +1,82 @@
 // Part-settings as the search holds them.
-ghost use Rattle.std.specs.Prelude.{◌≡◌, ◌≤◌, None, not, is_some, replicate, position};
+ghost use Rattle.std.specs.Prelude.{◌≡◌, ◌≤◌, not, is_some, replicate, position};
 ghost use Rattle.rules.specs.Settings.{Within};
 ghost use Rattle.search_theory.specs.Tries.{lowest};
-ghost use Rattle.search.specs.Values.{part_of, back, Puts};
+ghost use Rattle.search.specs.declared.values.Value.TheVariants.{Unset};
+ghost use Rattle.search.specs.Values.{view, value_of, kept_to, kept_values, part_of, back, Puts};
 
 use rules::literals::Literal;
 
-// The value of a switch that is set, and how many tries stood when it was set.
+// How a switch is set. One byte, and the levels stand beside the values: a try that is turned goes over all values, and many at
+// once only where they lie so. As one array of `Option<Assigned>`, a value with its level, sheets of few rules took three to four times as long.
 #[derive(Clone, Copy)]
-pub struct Assigned {
-    pub on: bool,
-    pub level: u16,
+pub enum Value {
+    Unset,
+    Off,
+    On,
 }
 
-const UNSET: Option<Assigned> = None;
+const UNSET: Value = Value::Unset;
 
-// The value of switch v stands at index v - 1. What is set next is set at the level.
+impl Value {
+    fn of(on: bool) -> Value
+        ensures { result ≡ value_of on }
+    {
+        if on { Value::On } else { Value::Off }
+    }
+
+    fn on(self) -> Option<bool>
+        ensures { result ≡ view self }
+    {
+        match self {
+            Value::Unset => None,
+            Value::Off => Some(false),
+            Value::On => Some(true),
+        }
+    }
+
+    // A value that was set at a level above the limit is unset again.
+    fn kept_to(self, limit: u16, level: u16) -> Value
+        ensures { result ≡ kept_to limit level self }
+    {
+        if level > limit { UNSET } else { self }
+    }
+}
+
+// The value of switch v stands at index v - 1, and in `levels` how many tries stood when it was set. Where v is unset, its level has no meaning.
+// What is set next is set at the level.
 #[derive(Drop)]
 pub struct PartSetting {
-    pub values: [Option<Assigned>; 256],
+    pub values: [Value; 256],
+    pub levels: [u16; 256],
     pub level: u16,
 }
 
 // The index of the first value that is unset.
-fn first_unset(values: &[Option<Assigned>]) -> Option<usize>
-    ensures { result ≡ position (λ v. not (is_some v)) values.now }
+fn first_unset(values: &[Value]) -> Option<usize>
+    ensures { result ≡ position (λ v. not (is_some (view v))) values.now }
 {
-    values.iter().position(|value| value.is_none())
+    values.iter().position(|value| value.on().is_none())
+}
+
+// Unsets what was set at a level above the limit. By index, since a `zip` with `iter_mut` says nothing of what was written.
+fn unset_above(values: &mut [Value; 256], levels: &[u16; 256], limit: u16)
+    ensures { values.new ≡ kept_values limit levels.now values.old }
+{
+    for index in 0..256usize {
+        values[index] = values[index].kept_to(limit, levels[index]);
+    }
 }
 
 impl PartSetting {
     // Nothing set.
     pub(crate) fn new() -> PartSetting
-        ensures values { result.values ≡ replicate 256 None }
+        ensures values { result.values ≡ replicate 256 Unset }
         ensures level { result.level ≡ 0 }
     {
         PartSetting {
             values: [UNSET; 256],
+            levels: [0; 256],
             level: 0,
         }
     }
@@ -46,7 +86,7 @@ impl PartSetting {
         requires { Within 256 switch }
         ensures { result ≡ part_of self.now switch }
     {
-        self.values[switch as usize - 1].map(|assigned| assigned.on)
+        self.values[switch as usize - 1].on()
     }
 
     // The lowest of the switches that is unset. Where nothing is forced, it is free: were it the dependent of a row, the row's
@@ -63,19 +103,16 @@ impl PartSetting {
         requires { Within 256 literal.switch }
         ensures { Puts literal self.old self.new }
     {
-        self.values[literal.switch as usize - 1] = Some(Assigned {
-            on: literal.on,
-            level: self.level,
-        });
+        let index = literal.switch as usize - 1;
+        self.values[index] = Value::of(literal.on);
+        self.levels[index] = self.level;
     }
 
     // Goes back to a level: what was set at a higher one is unset again.
     pub(crate) fn back_to(&mut self, level: u16)
         ensures { self.new ≡ back level self.old }
     {
-        for value in self.values.iter_mut() {
-            *value = value.filter(|assigned| assigned.level <= level);
-        }
+        unset_above(&mut self.values, &self.levels, level);
         self.level = level;
     }
 }

@@ -1,11 +1,8 @@
 -- Settings that a search has found.
-use Rattle.std.proofs.Common.{◌≡◌, ℕ, zero, suc, ◌+◌, ◌<◌, ◌≤◌, Bool, false, List, length, get_or, take, unwrap_or, slice_index_or, Some, sym, refl, ap, ◌∙◌, subst, add-one, zero-add, arith}
-use denote.Param.Members.{Mut}
-use Rattle.std.specs.Fn.{Called}
-use Rattle.std.specs.Array.{IsFromFnResultFrom, IsFromFnResult}
+use Rattle.std.proofs.Common.{◌≡◌, ℕ, ◌+◌, ◌<◌, Bool, false, List, [], ◌∷◌, ◌++◌, length, take, set, unwrap_or, Some, sym, refl, ap, ◌∙◌, subst, add-one}
 use Rattle.std.proofs.lemmas.List.FromFn.{length-map-range_with_len}
 use Rattle.rules.specs.declared.literals.Literal.{Literal}
-use Rattle.std.proofs.lemmas.List.{length-take-le, get_or-take, get_or_default, same_lists}
+use Rattle.std.proofs.lemmas.List.{take_more, take_more_set}
 use Rattle.rules.specs.Constraints.{Constraint}
 use Rattle.rules.specs.Settings.{Within, setting}
 use Rattle.search_theory.specs.Tries.{part, Course, found, nothing, due, step}
@@ -48,29 +45,7 @@ pub found_shown : (s : Search) (vs : List Bool) (v : ℕ) → course_of s ≡ fo
 found_shown s vs v e within =
     found_value s.system.switches (rules_of s.system) (reduced_of s.system) s.state (standing_of s) vs e v within
 
--- the elements of an array that is made by calls, of which each gives P with its index and leaves the closure as it was
-module _ {F B : Type 0} (g : Mut F (ℕ × Unit {0}) B) (P : ℕ → B → Type 0) (f : F) (each : (i : ℕ) (y : B) (q : F) → Called g f (i, tt) y q → P i y × (q ≡ f)) (ys : List B) (d : B) where
-  from : (i n j : ℕ) → IsFromFnResultFrom g f ys i n → j < n → P (i + j) (slice_index_or ys (i + j) d)
-  from i zero j made lt = absurd (omega arith)
-  from i (suc n) zero (q, y, here, call, rest) lt =
-      let at : i ≡ i + 0 = omega arith in
-      let p : P i (slice_index_or ys i d) = subst (P i) (sym (here.1 d)) (each i y q call).0 in
-      subst (λ k. P k (slice_index_or ys k d)) at p
-  from i (suc n) (suc j) (q, y, here, call, rest) lt =
-      let at : i + 1 + j ≡ i + suc j = omega arith in
-      let next = subst (λ p. IsFromFnResultFrom g p ys (i + 1) n) (each i y q call).1 rest in
-      subst (λ k. P k (slice_index_or ys k d)) at (from (i + 1) n j next (omega arith))
-
-  pub made_at : (n k : ℕ) → IsFromFnResult g f ys n → k < n → P k (slice_index_or ys k d)
-  made_at n k made lt = subst (λ i. P i (slice_index_or ys i d)) (zero-add k) (from 0 n k made.each lt)
-
--- the first elements are the values of a list, one by one
-pub values_made : (vs made : List Bool) (w : ℕ) → length vs ≡ w → w ≤ length made → ((i : ℕ) → i < w → get_or made i false ≡ setting vs (i + 1)) → take w made ≡ vs
-values_made vs made w long room each =
-    let same : length (take w made) ≡ length vs = length-take-le w made room ∙ sym long in
-    same_lists (take w made) vs same (λ k d lt. at k d (omega (arith, lt, long, same)))
-  where
-    at : (k : ℕ) (d : Bool) → k < w → get_or (take w made) k d ≡ get_or vs k d
-    at k d lt =
-        get_or-take w made k d lt ∙ get_or_default made k d false (omega (arith, lt, room)) ∙ each k lt ∙ ap (setting vs) (add-one k)
-        ∙ get_or_default vs k false d (omega (arith, lt, long))
+-- one more value, written to its place
+pub values_more : (vs out : List Bool) (i : ℕ) (b : Bool) → i < length vs → i < length out → b ≡ setting vs (i + 1) → take i out ≡ take i vs → take (i + 1) (set out i b) ≡ take (i + 1) vs
+values_more vs out i b lt room is same =
+    take_more_set out i b room ∙ ap (λ l. l ++ b ∷ []) same ∙ ap (λ x. take i vs ++ x ∷ []) (is ∙ ap (setting vs) (add-one i)) ∙ sym (take_more vs i false lt)

@@ -1,4 +1,4 @@
--- Facts that a session holds in ghost fields: any two proofs of each are the same.
+-- Lemmas for ghost fields: any two proofs of a fact that a session holds in one are the same.
 use Rattle.std.specs.Prelude.{ℕ, List}
 use Rattle.std.specs.Coded.{Unit-prop}
 use Rattle.std.proofs.Props.{props}

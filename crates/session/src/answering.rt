@@ -58,7 +58,7 @@ impl Session {
         let progress = self.search.go_on(budget);
         self.standing = Phase::from(progress.end);
         Settled {
-            end: progress.end.map(|()| self.setting()),
+            end: self.told(progress.end),
             tries: progress.tries,
         }
     }

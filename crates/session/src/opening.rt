@@ -14,7 +14,6 @@ use std::alloc::{AllocError, Global};
 
 // Opens a session over the sheet, whose rules are copied. All memory that the session ever needs is taken here.
 #[tactic(auto, unfolding(session_theory::specs::Law::Recorded))]
-// The heap goes to each function that may take memory, and to no other.
 pub fn open<S: Sheet>(heap: Global, sheet: &S) -> Result<Session, AllocError>
     ensures opened { IfOk result (λ s. session_of s ≡ opened (S.Sheet.meaning sheet.now)) }
     ensures recorded { IfOk result (λ s. Recorded (S.Sheet.meaning sheet.now) [] (session_of s)) }

@@ -1,19 +1,25 @@
 -- How many clauses a parity rule is written as, and how many records a rule takes.
-use Rattle.std.proofs.Common.{◌≡◌, ℕ, suc, ◌+◌, ◌*◌, ◌/◌, ◌%◌, ◌^◌, ◌<◌, ◌≤◌, Bool, true, false, not, List, [], ◌∷◌, map, length, Some, None, Ok, Err, IfSome, filter, Option, Result, sym, refl, ap, ◌∙◌, arith, length-append, pow_mono}
+use Rattle.std.proofs.Common.{◌≡◌, ℕ, zero, suc, ◌+◌, ◌*◌, ◌/◌, ◌%◌, ◌^◌, ◌<◌, ◌≤◌, Bool, true, false, not, List, [], ◌∷◌, map, length, drop, Some, None, Ok, Err, IfSome, filter, Option, Result, sym, refl, ap, ◌∙◌, arith, length-append, pow_mono}
 use native.Mathlib.Nat.{two-pow-succ}
 use lib.ListN.{length-map}
-use Rattle.std.specs.Option.{ok_or}
+use Rattle.std.specs.List.{slice_get}
+use Rattle.std.specs.Option.{ok_or, option_map}
 use Rattle.std.proofs.lemmas.List.Elements.{filter-append}
 use Rattle.std.proofs.lemmas.List.Filters.{length-filter_both}
 use Rattle.std.proofs.lemmas.Bool.{lt-ltb, le-ltb, cond-true, cond-false}
 use Rattle.std.proofs.lemmas.Nat.{one_shl}
 use Rattle.rules.specs.declared.kinds.Side.{Side}
 use Rattle.rules.specs.declared.faults.Fault.{Fault}
-use Rattle.rules.specs.Constraints.{Constraint, parity, same, is_odd}
+use Rattle.rules.specs.declared.kinds.Kind.TheVariants.{Clause}
+use Rattle.rules.specs.Constraints.{Constraint, clause, parity, kind, switches, same, is_odd}
+use Rattle.rules.specs.Lawful.{lawful}
+use Rattle.rules.proofs.Lawfuls.{lawful_by_place}
+use Rattle.sheets.specs.Meaning.{Meaning, LawfulSheet}
+use Rattle.sheets.specs.Telling.{every_nth}
 use Rattle.parity_theory.specs.Writing.{settings, odd_number, off_side, against, written_out}
 use Rattle.writer.specs.Expansion.{clauses_of}
 use Rattle.writer.specs.Writing.{first_wide}
-use Rattle.writer.specs.Parts.{records_for}
+use Rattle.writer.specs.Parts.{records_at, records_for}
 use Rattle.writer.proofs.Settings.{length_settings}
 
 length_kept_map : {X Y : Type 0} (p : Y → Bool) (f : X → Y) (xs : List X) → length (filter p (map f xs)) ≡ length (filter (λ x. p (f x)) xs)
@@ -59,6 +65,30 @@ parity_count vs side w wide some narrow =
 
 pub parity_wide : (vs : List ℕ) (side : Side) → 5 < length vs → None ≡ records_for (parity vs side)
 parity_wide vs side wide = sym (cond-true _ _ _ (lt-ltb 5 (length vs) wide))
+
+-- a clause takes one record
+pub clause_count : (o : Option Constraint) → Some Clause ≡ option_map kind o → Some 1 ≡ records_at o
+clause_count None h = cc
+clause_count (Some (clause ls)) h = refl
+clause_count (Some (parity vs side)) h = cc
+
+-- a lawful rule has a switch
+pub some_in : (m : Meaning) → LawfulSheet m → (i : ℕ) (r : Constraint) → Some r ≡ slice_get m.rules i → 1 ≤ length (switches r)
+some_in m law i r is = (lawful_by_place m.switches r (every_nth (lawful m.switches) m.rules i r law.sound (sym is))).some
+
+-- the rule at an index is the first of those that are left there
+pub record Left (rules : List Constraint) (i : ℕ) : Type 0 where
+  pub rule : Constraint
+  pub here : slice_get rules i ≡ Some rule
+  pub left : drop i rules ≡ rule ∷ drop (i + 1) rules
+
+pub left_at : (rules : List Constraint) (i : ℕ) → i < length rules → Left rules i
+left_at [] i h = absurd (omega arith)
+left_at (r ∷ rs) zero h = record { rule = r; here = refl; left = refl }
+left_at (r ∷ rs) (suc i) h =
+    let l = left_at rs i (omega arith) in
+    let at : suc (i + 1) ≡ suc i + 1 = omega arith in
+    record { rule = l.rule; here = l.here; left = l.left ∙ ap (λ k. l.rule ∷ drop k (r ∷ rs)) at }
 
 -- what is told of a rule, with the fault that stands for no number
 module _ (o : Option ℕ) (f : Fault) (r : Result ℕ Fault) (told : r ≡ ok_or o f) where

@@ -1,17 +1,7 @@
--- The slots of a record: the bytes of its literals, then zeros.
-use Rattle.std.proofs.Common.{◌≡◌, ℕ, zero, suc, ◌*◌, ◌/◌, ◌%◌, ◌-◌, ◌≤◌, List, [], ◌∷◌, ◌++◌, length, take, drop, replicate, sym, refl, ap, ◌∙◌, subst, arith}
-use Rattle.std.specs.List.{flat_map}
-use Rattle.std.proofs.lemmas.List.{take_rest, length-take}
-use Rattle.rules.specs.declared.clauses.Clause.{Clause}
+-- The slots of a record as its literals come in.
+use Rattle.std.proofs.Common.{◌≡◌, ℕ, zero, suc, ◌+◌, ◌*◌, ◌/◌, ◌%◌, ◌<◌, List, [], ◌∷◌, length, get_or, take, set, replicate, sym, refl, ap, ◌∙◌, add-one, arith}
 use Rattle.rules.specs.declared.literals.Literal.{Literal}
 use Rattle.writer.specs.Bytes.{low_high, literal_word, slots, record_bytes}
-use Rattle.rules.specs.Views.{literals_of}
-use Rattle.writer.specs.declared.output.Output.{Output}
-use Rattle.writer.specs.Output.{HasRoom, Puts}
-use Rattle.writer.proofs.Puts.{room_front, room_then, puts_then}
-
-abbrev pub slot_bytes : Literal → List ℕ
-slot_bytes l = low_high (literal_word l)
 
 pub length_slots : (k : ℕ) (ls : List Literal) → length (slots k ls) ≡ 2 * k
 unfolding slots
@@ -22,49 +12,37 @@ length_slots (suc k) (l ∷ ls) = let ih = length_slots k ls in omega arith
 pub length_record : (ls : List Literal) → length (record_bytes ls) ≡ 18
 length_record ls = let eight = length_slots 8 ls in omega arith
 
-slots_filled : (k : ℕ) (ls : List Literal) → length ls ≤ k → flat_map slot_bytes ls ++ drop (2 * length ls) (replicate (2 * k) 0) ≡ slots k ls
+-- both bytes of slot j written
+abbrev with_slot : List ℕ → ℕ → ℕ → List ℕ
+with_slot bytes j w = set (set bytes (2 * j) (w % 256)) (2 * j + 1) (w / 256 % 256)
+
+with_slot_front : (a b : ℕ) (bytes : List ℕ) (j w : ℕ) → with_slot (a ∷ b ∷ bytes) (suc j) w ≡ a ∷ b ∷ with_slot bytes j w
+with_slot_front a b bytes j w =
+    let e : 2 * suc j ≡ suc (suc (2 * j)) = omega arith in
+    let o : 2 * suc j + 1 ≡ suc (suc (2 * j + 1)) = omega arith in
+    rw (o, e)
+
+slot_more : (k : ℕ) (ls : List Literal) (j : ℕ) (d : Literal) → j < k → j < length ls → with_slot (slots k (take j ls)) j (literal_word (get_or ls j d)) ≡ slots k (take (suc j) ls)
 unfolding slots
-slots_filled zero [] h = refl
-slots_filled zero (l ∷ ls) h = absurd (omega arith)
-slots_filled (suc k) [] h =
-    let e : 2 * suc k ≡ suc (suc (2 * k)) = omega arith in
-    ap (λ n. replicate n 0) e ∙ ap (λ bs. 0 ∷ 0 ∷ bs) (slots_filled k [] (omega arith))
-slots_filled (suc k) (l ∷ ls) h =
-    let e : 2 * suc k ≡ suc (suc (2 * k)) = omega arith in
-    let u : 2 * suc (length ls) ≡ suc (suc (2 * length ls)) = omega arith in
-    ap (λ n. flat_map slot_bytes (l ∷ ls) ++ drop (2 * suc (length ls)) (replicate n 0)) e
-    ∙ ap (λ n. flat_map slot_bytes (l ∷ ls) ++ drop n (0 ∷ 0 ∷ replicate (2 * k) 0)) u
-    ∙ ap (λ bs. literal_word l % 256 ∷ literal_word l / 256 % 256 ∷ bs) (slots_filled k ls (omega arith))
+slot_more zero ls j d h lt = absurd (omega arith)
+slot_more (suc k) [] j d h lt = absurd (omega arith)
+slot_more (suc k) (l ∷ ls) zero d h lt = refl
+slot_more (suc k) (l ∷ ls) (suc j) d h lt = with_slot_front _ _ (slots k (take j ls)) j _ ∙ ap (λ x. literal_word l % 256 ∷ literal_word l / 256 % 256 ∷ x) (slot_more k ls j d (omega arith) (omega arith))
 
--- the zeros behind the literals, as the code has them
-abbrev pub empty_slots : ℕ → List ℕ
-empty_slots filled = take (16 - 2 * filled) (drop (2 * filled) (replicate 16 0))
+pub record_more : (ls : List Literal) (j : ℕ) (d : Literal) (bytes slot : List ℕ) → j < 8 → j < length ls → slot ≡ low_high (literal_word (get_or ls j d)) → bytes ≡ record_bytes (take j ls) → set (set bytes (2 + 2 * j) (get_or slot 0 0)) (2 + 2 * j + 1) (get_or slot 1 0) ≡ record_bytes (take (j + 1) ls)
+record_more ls j d bytes slot h lt here inv =
+    let low : ℕ = literal_word (get_or ls j d) % 256 in
+    let high : ℕ = literal_word (get_or ls j d) / 256 % 256 in
+    let e : 2 + 2 * j ≡ suc (suc (2 * j)) = omega arith in
+    let o : suc (suc (2 * j)) + 1 ≡ suc (suc (2 * j + 1)) = omega arith in
+    ap (λ s. set (set bytes (2 + 2 * j) (get_or s 0 0)) (2 + 2 * j + 1) (get_or s 1 0)) here
+    ∙ ap (λ x. set (set x (2 + 2 * j) low) (2 + 2 * j + 1) high) inv
+    ∙ ap (λ n. set (set (record_bytes (take j ls)) n low) (n + 1) high) e
+    ∙ ap (λ n. set (67 ∷ 76 ∷ set (slots 8 (take j ls)) (2 * j) low) n high) o
+    ∙ ap (λ x. 67 ∷ 76 ∷ x) (slot_more 8 ls j d h lt)
+    ∙ ap (λ n. record_bytes (take n ls)) (sym (add-one j))
 
-record_filled : (ls : List Literal) → length ls ≤ 8 → (67 ∷ 76 ∷ flat_map slot_bytes ls) ++ empty_slots (length ls) ≡ record_bytes ls
-record_filled ls few = ap (λ bs. (67 ∷ 76 ∷ flat_map slot_bytes ls) ++ bs) (take_rest (replicate 16 0) (2 * length ls)) ∙ ap (λ bs. 67 ∷ 76 ∷ bs) (slots_filled 8 ls few)
-
-few_literals : (c : Clause) → length (literals_of c) ≤ 8
-few_literals c = omega (arith, length-take c.width c.literals, c.fits)
-
--- the mark, the literals ls of a clause and the zeros, put one behind the other
-module _ (c : Clause) (ls : List Literal) (same : ls ≡ literals_of c) (o m : Output) (room : HasRoom (record_bytes (literals_of c)) o) (mark : Puts (67 ∷ 76 ∷ []) o m) where
-  whole : (67 ∷ 76 ∷ flat_map slot_bytes ls) ++ empty_slots (length ls) ≡ record_bytes (literals_of c)
-  whole = record_filled ls (omega (arith, ap length same, few_literals c)) ∙ ap record_bytes same
-
-  filled_room : HasRoom (flat_map slot_bytes ls ++ empty_slots (length ls)) m
-  filled_room =
-      let P : List ℕ → Type 0 = λ bs. HasRoom bs o in
-      room_then (67 ∷ 76 ∷ []) (flat_map slot_bytes ls ++ empty_slots (length ls)) o m (subst P (sym whole) room) mark
-
-  pub slots_room : HasRoom (flat_map slot_bytes ls) m
-  slots_room = room_front (flat_map slot_bytes ls) (empty_slots (length ls)) m filled_room
-
-  module _ (n : Output) (filled : Puts (flat_map slot_bytes ls) m n) where
-    pub empty_room : HasRoom (empty_slots (length ls)) n
-    empty_room = room_then (flat_map slot_bytes ls) (empty_slots (length ls)) m n filled_room filled
-
-    pub record_put : (r : Output) → Puts (empty_slots (length ls)) n r → Puts (record_bytes (literals_of c)) o r
-    record_put r empty =
-        let marked = puts_then (67 ∷ 76 ∷ []) (flat_map slot_bytes ls) o m n (omega (arith, room)) mark filled in
-        let all = puts_then (67 ∷ 76 ∷ flat_map slot_bytes ls) (empty_slots (length ls)) o n r (omega (arith, room)) marked empty in
-        subst (λ bs. Puts bs o r) whole all
+-- eight empty slots
+pub record_none : 67 ∷ 76 ∷ replicate 16 0 ≡ record_bytes []
+unfolding slots
+record_none = refl

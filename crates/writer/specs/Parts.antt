@@ -18,6 +18,11 @@ pub record Writable (m : Meaning) : Type 0 where
 abbrev pub records_for : Constraint → Option ℕ
 records_for r = cond (is_wide r) None (Some (length (expanded r)))
 
+-- how many records a rule takes that may be absent
+abbrev pub records_at : Option Constraint → Option ℕ
+records_at None = Some 0
+records_at (Some r) = records_for r
+
 -- how many records a sheet takes
 abbrev pub record_count : Meaning → Result ℕ Fault
 record_count m = verdict (refusal m) (length (clauses_of m.rules))

@@ -29,19 +29,28 @@ fn slot_of(literal: Literal) -> [u8; 2]
     }
 }
 
+// The record of a clause; the slots behind its literals stay 0. It is made whole and then put: put slot by slot, a file took twice as long.
+fn record_of(literals: &[Literal]) -> [u8; 18]
+    requires { length literals.now ≤ 8 }
+    ensures { result ≡ record_bytes literals.now }
+{
+    let mut record = [0; 18];
+    record[0] = b'C';
+    record[1] = b'L';
+    for (j, literal) in literals.iter().enumerate() {
+        let [low, high] = slot_of(*literal);
+        record[2 + 2 * j] = low;
+        record[2 + 2 * j + 1] = high;
+    }
+    record
+}
+
 impl Output<'_> {
-    // The record of a clause; the slots behind its literals are 0.
     fn put_clause(&mut self, clause: &Clause)
         requires { HasRoom (record_bytes (literals_of clause.now)) self.old }
         ensures { Puts (record_bytes (literals_of clause.now)) self.old self.new }
     {
-        let filled = clause.literals();
-        self.put(b"CL");
-        for literal in filled {
-            self.put(&slot_of(*literal));
-        }
-        let empty = [0; 16];
-        self.put(&empty[2 * filled.len()..]);
+        self.put(&record_of(clause.literals()));
     }
 
     // A parity rule, as one record for each pattern that breaks it, the patterns rising. They are numbers, and index nothing.

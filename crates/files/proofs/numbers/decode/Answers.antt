@@ -1,6 +1,6 @@
-use Rattle.std.proofs.Common.{◌≡◌, ℕ, zero, suc, ◌+◌, ◌-◌, ◌*◌, ◌/◌, ◌<◌, cond, ltb, List, [], ◌∷◌, ◌++◌, pos, negsuc, length, take, drop, get_or, slice_index, sym, refl, ap, ◌∙◌, lit<, w16, to_z, of_z, arith, rules}
+use Rattle.std.proofs.Common.{◌≡◌, ℕ, zero, suc, ◌+◌, ◌-◌, ◌*◌, ◌/◌, ◌<◌, cond, ltb, List, [], ◌∷◌, ◌++◌, pos, negsuc, length, length-set, take, drop, get_or, slice_index, sym, refl, ap, ◌∙◌, lit<, w16, to_z, of_z, arith, rules}
 use Rattle.std.specs.Simd.{first_chunks}
-use Rattle.std.proofs.lemmas.List.{get_or-take, get_or-drop, length-take-le}
+use Rattle.std.proofs.lemmas.List.{get_or-take, get_or-drop, length-take-le, take_more_set}
 use Rattle.std.proofs.lemmas.Int.{to_z-of_z}
 use Rattle.std.proofs.lemmas.List.FromFn.{map-range_with_len_more}
 use Rattle.files.specs.Numbers.{word, signed, entry}
@@ -22,10 +22,10 @@ entry_of bytes pair i low high =
     let same : slice_index pair 0 + slice_index pair 1 * 256 ≡ word (slice_index bytes (2 * i)) (slice_index bytes (2 * i + 1)) = omega arith in
     ap (to_z w16) same ∙ signed_is _
 
-pub loop-pair-preserved : goal.loop-pair-preserved
-loop-pair-preserved c =
+pub loop-i-preserved : goal.loop-i-preserved
+loop-i-preserved c =
     let bytes = c.args.bytes.now in
-    let i = c.loop-pair.pair-index in
+    let i = c.loop-i.i in
     let front = take (2 * c.args.count) bytes in
     let long : length front ≡ 2 * c.args.count = length-take-le (2 * c.args.count) bytes (omega (arith, c.requires)) in
     let here : i < length front / 2 = omega (arith, c.as_chunks.ensures.front_len) in
@@ -35,6 +35,8 @@ loop-pair-preserved c =
     let this : to_z w16 (of_z w16 c.from_le_bytes.result) ≡ entry bytes i =
     to_z-of_z w16 _ (search rules) ∙ c.from_le_bytes.ensures ∙ entry_of bytes (get_or c.as_chunks.result.0.now i []) i (byte 0 (2 * i) (lit< tt) (omega arith)) (byte 1 (2 * i + 1) (lit< tt) refl) in
     record {
-      counted = omega (arith, c.push.ensures.len, c.loop-pair.invariant.counted);
-      read = c.push.ensures.items ∙ (λ t. c.loop-pair.invariant.read t ++ this t ∷ []) ∙ sym (map-range_with_len_more (entry bytes) 0 i i (omega arith));
+      sized = length-set c.loop-i.entries _ _ ∙ c.loop-i.invariant.sized;
+      read =
+          take_more_set c.loop-i.entries i _ (omega (arith, c.requires, c.loop-i.invariant.sized)) ∙ (λ t. c.loop-i.invariant.read t ++ this t ∷ [])
+          ∙ sym (map-range_with_len_more (entry bytes) 0 i i (omega arith));
     }

@@ -1,7 +1,6 @@
-use Rattle.std.proofs.Common.{◌≡◌}
-use Rattle.arrayvec.specs.ArrayVec.{array_vec_len}
+use Rattle.std.proofs.Common.{◌≡◌, length, take}
 use Rattle.files.specs.Numbers.{entries_in}
 use Rattle.files.proofs.numbers.decode.Given as goal
 
-abbrev pub invariant-loop-pair : goal.invariant-loop-pair
-invariant-loop-pair l = record { counted : array_vec_len l.entries ≡ l.pair-index; read : l.entries.items ≡ entries_in l.pair-index l.bytes }
+abbrev pub invariant-loop-i : goal.invariant-loop-i
+invariant-loop-i l = record { sized : length l.entries ≡ 16; read : take l.i l.entries ≡ entries_in l.i l.bytes }
