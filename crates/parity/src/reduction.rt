@@ -36,7 +36,7 @@ fn write_rows(rows: &mut Vec<Row>, solved: &[Solved])
     }
 }
 
-// What the rules come to now, in the place of what was told before.
+// What the rules come to now, in the place of what was told before. It is a step of its own, so that an edit can turn it and no other.
 fn put_outcome(told: &mut Result<(), Contradiction>, now: Result<(), Contradiction>)
     ensures { told.new ≡ now }
 {

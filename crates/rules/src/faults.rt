@@ -62,7 +62,7 @@ pub enum Cause {
     NothingFound = 14,
 }
 
-// The number by which a refusal tells its cause.
+// A cause as its number.
 impl From<Cause> for u8 {
     ghost from_gives = { λ cause n. n ≡ number cause };
 
@@ -72,7 +72,7 @@ impl From<Cause> for u8 {
 }
 
 impl Cause {
-    // The same, by name.
+    // The number by which a refusal tells its cause.
     pub fn number(self) -> u8
         ensures { result ≡ number self }
     {

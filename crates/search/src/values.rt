@@ -8,7 +8,7 @@ ghost use Rattle.search.specs.Values.{view, value_of, kept_to, kept_values, part
 use rules::literals::Literal;
 
 // How a switch is set. One byte, and the levels stand beside the values: a try that is turned goes over all values, and many at
-// once only where they lie so. As one array of `Option<Assigned>`, a value with its level, sheets of few rules took three to four times as long.
+// once only where they lie so. As one array of options, each a value with its level, sheets of few rules took 1.5 to 3.7 times as long.
 #[derive(Clone, Copy)]
 pub enum Value {
     Unset,

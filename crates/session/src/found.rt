@@ -18,7 +18,7 @@ impl Session {
     {
         let width = usize::from(self.rules.switches);
         let mut values = [false; 256];
-        // By index, up to the width: an array made by a function asks for all 256 values, which took 2.6 times as long over three switches.
+        // By index, up to the width: an array made by a function asks for all 256 values, which took 3.4 times as long over three switches.
         for i in 0..width {
             values[i] = self.search.value(i as u16 + 1).unwrap_or(false);
         }

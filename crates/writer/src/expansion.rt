@@ -29,7 +29,7 @@ fn slot_of(literal: Literal) -> [u8; 2]
     }
 }
 
-// The record of a clause; the slots behind its literals stay 0. It is made whole and then put: put slot by slot, a file took twice as long.
+// The record of a clause; the slots behind its literals stay 0. It is made whole and then put: put slot by slot, a file took a quarter as long again.
 fn record_of(literals: &[Literal]) -> [u8; 18]
     requires { length literals.now ≤ 8 }
     ensures { result ≡ record_bytes literals.now }
@@ -46,6 +46,7 @@ fn record_of(literals: &[Literal]) -> [u8; 18]
 }
 
 impl Output<'_> {
+    // The record of a clause.
     fn put_clause(&mut self, clause: &Clause)
         requires { HasRoom (record_bytes (literals_of clause.now)) self.old }
         ensures { Puts (record_bytes (literals_of clause.now)) self.old self.new }
