@@ -1,11 +1,11 @@
 -- What a session tells, as the report has it.
-use Rattle.std.proofs.Common.{◌≡◌, ℕ, length, Ok, Err, Option, Result, sym, ap, ◌∙◌}
+use Rattle.std.proofs.Common.{◌≡◌, ℕ, length, Ok, Err, Option, Result, sym, refl, ap, ◌∙◌}
 use Rattle.rules.specs.declared.faults.Fault.{Fault}
 use Rattle.sheets.specs.Meaning.{Meaning, check_of, or_blank}
 use Rattle.parity_theory.specs.Reducing.{freedom}
 use Rattle.session_theory.specs.Session.{Session, End, opened, size, rules, end_at, settled_course, settled_tries, freedom_told, settled, Happens}
 use Rattle.report.specs.Lines.{report_lines}
-use Rattle.report.specs.Reports.{report_budget, told_by, sheet_report}
+use Rattle.report.specs.Reports.{report_budget, told_by, sheet_report, report_of}
 
 free_is : (s t : Session) (f : Option ℕ) → Happens s (freedom_told f) t → f ≡ freedom (size s) (rules s)
 unfolding Happens
@@ -27,3 +27,6 @@ refused_is (Err g) f h = cc
 pub accepted_is : (x : Result Meaning Fault) (u : Unit {0}) (m : Meaning) → Ok u ≡ check_of x → m ≡ or_blank x → x ≡ Ok m
 accepted_is (Ok k) u m h same = ap Ok (sym same)
 accepted_is (Err g) u m h same = cc
+
+pub accepted_report : (x : Result Meaning Fault) (u : Unit {0}) → Ok u ≡ check_of x → sheet_report (or_blank x) ≡ report_of x
+accepted_report x u h = ap report_of (sym (accepted_is x u (or_blank x) h refl))

@@ -3,6 +3,7 @@ use Rattle.std.proofs.Common.{◌≡◌, ℕ, zero, suc, ◌+◌, ◌<◌, ◌�
 use Rattle.std.specs.List.{slice_get}
 use Rattle.std.specs.Option.{option_map}
 use Rattle.std.proofs.lemmas.List.{length-map, take_more_set, drop_all}
+use Rattle.std.proofs.lemmas.Option.{slice_get_within}
 use Rattle.rules.specs.declared.literals.Literal.{Literal}
 use Rattle.rules.specs.declared.kinds.Side.{Side}
 use Rattle.rules.specs.declared.kinds.Kind.{Kind}
@@ -10,7 +11,7 @@ use Rattle.rules.specs.declared.kinds.Kind.TheVariants.{Clause, Parity}
 use Rattle.rules.specs.Constraints.{Constraint, clause, parity, kind, entries, switches, switch_of, positive}
 use Rattle.rules.specs.Lawful.{lawful, widest}
 use Rattle.rules.proofs.Lawfuls.{lawful_by_place}
-use Rattle.sheets.specs.Meaning.{Meaning, LawfulSheet, entries_in, told_kind}
+use Rattle.sheets.specs.Meaning.{Meaning, LawfulSheet, entries_in, told_kind, told_entry}
 use Rattle.sheets.specs.Telling.{every_nth}
 use Rattle.sheets.proofs.Lefts.{left_some, left_none, taken_more, taken_all}
 
@@ -44,6 +45,10 @@ told_few m law i k h = by (slice_get m.rules i) refl h
         let here = lawful_by_place _ r (every_nth (lawful m.switches) m.rules i r law.sound e) in
         let same : kind r ≡ k = cc in
         omega (arith, length_entries r, here.few, ap widest same)
+
+-- an entry that is told stands within the width of its kind
+pub entry_within : (m : Meaning) → LawfulSheet m → (i j : ℕ) (k : Kind) (l : Literal) → told_kind m i ≡ Some k → Some l ≡ told_entry m i j → j < widest k
+entry_within m law i j k l h is = omega (arith, slice_get_within _ j l (sym is), told_few m law i k h)
 
 -- an element of a list of which each was turned
 pub nth_map : {X Y : Type 0} (f : X → Y) (xs : List X) (j : ℕ) → option_map f (slice_get xs j) ≡ slice_get (map f xs) j
